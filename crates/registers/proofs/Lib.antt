@@ -1,0 +1,5 @@
+pub mod Table
+pub mod Widths
+pub mod Fields
+pub mod Bytes
+pub mod Clock
