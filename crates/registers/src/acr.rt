@@ -9,32 +9,32 @@ use crate::answer::Answer;
 use crate::field;
 use crate::field::Field;
 
-const ASF: Field = Field {
+pub const ASF: Field = Field {
     position: 0,
     width: 10,
 };
 
-const LOAD_ARR: Field = Field {
+pub const LOAD_ARR: Field = Field {
     position: 10,
     width: 1,
 };
 
-const RAMP: Field = Field {
+pub const RAMP: Field = Field {
     position: 11,
     width: 1,
 };
 
-const MULTIPLIER: Field = Field {
+pub const MULTIPLIER: Field = Field {
     position: 12,
     width: 1,
 };
 
-const STEP: Field = Field {
+pub const STEP: Field = Field {
     position: 14,
     width: 2,
 };
 
-const ARR: Field = Field {
+pub const ARR: Field = Field {
     position: 16,
     width: 8,
 };

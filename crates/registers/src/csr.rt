@@ -9,17 +9,17 @@ use crate::answer::Answer;
 use crate::field;
 use crate::field::Field;
 
-const LSB_FIRST: Field = Field {
+pub const LSB_FIRST: Field = Field {
     position: 0,
     width: 1,
 };
 
-const MODE: Field = Field {
+pub const MODE: Field = Field {
     position: 1,
     width: 2,
 };
 
-const CHANNEL: Field = Field {
+pub const CHANNEL: Field = Field {
     position: 4,
     width: 4,
 };

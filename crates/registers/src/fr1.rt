@@ -9,62 +9,62 @@ use crate::answer::Answer;
 use crate::field;
 use crate::field::Field;
 
-const SW_SYNC: Field = Field {
+pub const SW_SYNC: Field = Field {
     position: 0,
     width: 1,
 };
 
-const HW_SYNC: Field = Field {
+pub const HW_SYNC: Field = Field {
     position: 1,
     width: 1,
 };
 
-const DAC_REF_PD: Field = Field {
+pub const DAC_REF_PD: Field = Field {
     position: 4,
     width: 1,
 };
 
-const SYNC_CLK_PD: Field = Field {
+pub const SYNC_CLK_PD: Field = Field {
     position: 5,
     width: 1,
 };
 
-const EXT_PD: Field = Field {
+pub const EXT_PD: Field = Field {
     position: 6,
     width: 1,
 };
 
-const EXT_CLK_PD: Field = Field {
+pub const EXT_CLK_PD: Field = Field {
     position: 7,
     width: 1,
 };
 
-const MODULATION: Field = Field {
+pub const MODULATION: Field = Field {
     position: 8,
     width: 2,
 };
 
-const RAMP_UP_DOWN: Field = Field {
+pub const RAMP_UP_DOWN: Field = Field {
     position: 10,
     width: 2,
 };
 
-const PROFILE_PIN: Field = Field {
+pub const PROFILE_PIN: Field = Field {
     position: 12,
     width: 3,
 };
 
-const CHARGE_PUMP: Field = Field {
+pub const CHARGE_PUMP: Field = Field {
     position: 16,
     width: 2,
 };
 
-const PLL_DIVIER: Field = Field {
+pub const PLL_DIVIER: Field = Field {
     position: 18,
     width: 5,
 };
 
-const VCO_HIGH: Field = Field {
+pub const VCO_HIGH: Field = Field {
     position: 23,
     width: 1,
 };
