@@ -1,14 +1,13 @@
 -- A float from 1 up is no NaN, and its pattern has no sign; any other is cut to 0.
-use mathlib.Core.Path.{_≡_, refl, sym, ap, _∙_, subst}
+use mathlib.Core.Path.{_≡_, refl, sym, subst}
 use mathlib.Core.Bool.{Bool, true, false, not}
-use Prim.Native.Nat.{ℕ, _+_, _-_, _*_, _/_, _%_, _^_, _≤_, _<_, min}
+use Prim.Native.Nat.{ℕ, _-_, _*_, _/_, _^_, _≤_, _<_, min}
 use native.Mathlib.Nat.{le-div-iff-mul-le, lt-of-not-le}
 use native.Mathlib.Omega.{arith}
-use lib.IntN.{pos}
 use lib.Dec.{T}
-use lib.Ieee.{Float, nan, inf, fin, binary32, up, down, isNan, fits, le, lt, eq, ofBits, toBits, toUnsigned}
+use lib.Ieee.{Float, nan, inf, fin, binary32, up, down, isNan, fits, le, ofBits, toBits, toUnsigned}
 use lib.Ieee.Fits.{down-pos}
-use lib.Ieee.Positive.{num, den, positive, above, above-of-le, le→cross}
+use lib.Ieee.Positive.{above, above-of-le, le→cross}
 use Rattle.std.proofs.num.Truncating.{one, below-one}
 use Rattle.binary32.proofs.Pattern.{negative}
 

@@ -3,15 +3,14 @@
 --     negative, positive   a pattern with the sign, and one without
 --     narrowed    16 bits from 32
 use mathlib.Core.Path.{_≡_, refl, sym, ap, _∙_, subst}
-use mathlib.Core.Bool.{Bool, true, false, not, cond, true≢false}
+use mathlib.Core.Bool.{Bool, true, false, not, cond}
 use Prim.Native.Nat.{ℕ, zero, suc, _+_, _-_, _*_, _/_, _%_, _^_, _≤_, _<_, min}
-use native.Mathlib.Nat.{mod-eq-of-lt, min-eq-right, le-trans, lt-of-lt-of-le, div-one, mul-le-mul, add-comm, mul-assoc, mul-comm, mul-left-comm, mod-lt, div-eq-of-lt, le-div-iff-mul-le, pow-suc}
+use native.Mathlib.Nat.{mod-eq-of-lt, add-comm, mul-assoc, mul-left-comm, mod-lt, pow-suc}
 use native.Mathlib.Omega.{arith}
 use lib.Dec.{T, leb, eqb, eqb→eq, lit<, lit≤}
-use lib.Pow.{pow-pos, pow-mono, shr-le, shl-shr, shr-shr}
-use lib.Ieee.{Float, nan, inf, fin, binary32, up, down, odd, isNan, fits, ne, ofFields, ofBits, toBits, toUnsigned}
+use lib.Pow.{pow-pos}
+use lib.Ieee.{Float, nan, inf, fin, binary32, up, down, odd, isNan, fits, ofFields, ofBits, toBits, toUnsigned}
 use borrow.Author.Tests.{le-leb, lt-leb}
-use lib.Ieee.Compare.{differs-from-itself}
 use lib.Ieee.Fits.{down-pos}
 use lib.Ieee.Bits.{ofBits-toBits}
 use lib.Ieee.Exact.{HasValue, odd-sign}

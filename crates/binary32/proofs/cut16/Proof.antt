@@ -5,9 +5,6 @@ use Rattle.binary32.proofs.Pattern.{narrowed}
 use Rattle.binary32.proofs.cut16.Statement.{statement}
 use Rattle.binary32.proofs.cut16.Tie as tie
 
-cut-requires : tie.Need-cut-requires
-cut-requires c κs = search needs
-
 returns : tie.Need-returns
 returns c = omega (arith, narrowed (c .before .before .args .x))
 
@@ -15,4 +12,4 @@ returns-2 : tie.Need-returns-2
 returns-2 c = omega (arith, narrowed (c .before .before .args .x))
 
 pub cut16-spec : {M : Type 1} → statement M
-cut16-spec = tie.close (tie.spec cut-requires returns returns-2)
+cut16-spec = tie.close (tie.spec (λ c κs. search needs) returns returns-2)

@@ -15,15 +15,6 @@ abbrev μ-loop : tie.MeasureT-loop
 returns : tie.Need-returns Inv-loop μ-loop
 returns c = large _ _ (c .before .pre) (c .if1 .taken)
 
-loop-holds : tie.Need-loop-holds Inv-loop μ-loop
-loop-holds c = refl
-
-sub-n : tie.Need-sub-n Inv-loop μ-loop
-sub-n c = omega arith
-
-loop-less : tie.Need-loop-less Inv-loop μ-loop
-loop-less c = omega arith
-
 loop-again : tie.Need-loop-again Inv-loop μ-loop
 loop-again c = turned _ _ (c .loop-test .taken) ∙ c .before .loop .inv
 
@@ -33,4 +24,4 @@ returns-2 c =
     ended _ _ (c .loop-test .left) ∙ c .before .loop .inv ∙ shifted _ _ (s .before .fits .q .fits) (s .if1 .left)
 
 pub moved-spec : {M : Type 1} → statement M
-moved-spec = tie.close (tie.spec Inv-loop μ-loop returns loop-holds sub-n loop-less loop-again returns-2)
+moved-spec = tie.close (tie.spec Inv-loop μ-loop returns (λ c. refl) (λ c. omega arith) (λ c. omega arith) loop-again returns-2)

@@ -1,0 +1,3 @@
+pub mod Rising
+pub mod Steps
+pub mod Achieved

@@ -1,0 +1,5 @@
+pub mod Results
+pub mod Clock
+pub mod Frequency
+pub mod Phase
+pub mod Amplitude
