@@ -1,21 +1,22 @@
--- Values high byte first, once over the width, and lists laid over lists.
+-- Values high byte first, once over the width.
 --     length-bigEndian   as many bytes as the width
 --     value-bigEndian    reading what was written gives the value
 --     bigEndian-value    writing what was read gives the bytes
---     laid-sets          within a list, to lay is to store (lib.Seq's `sets`)
---     laid-nil           laying nothing changes nothing
---     length-laid        laying keeps the length
---     sets-snoc          the last of a run of stores may go first
-use mathlib.Core.Path.{_≡_, refl, sym, ap, _∙_}
+--     read-short, read-value   what a reading at a register's width tells
+--     write-number       a value that fits its width is refused by Room alone
+use mathlib.Core.Path.{_≡_, refl, _∙_}
 use mathlib.Core.List.{List, [], _∷_, _++_, append-nil, append-assoc}
 use Prim.Native.Nat.{ℕ, zero, suc, _+_, _*_, _/_, _^_, _≤_, _<_}
-use native.Mathlib.Nat.{add-zero, zero-add, add-suc, suc-add, pow-suc}
+use native.Mathlib.Nat.{add-zero, zero-add, pow-suc}
 use native.Mathlib.Numerals.{add-one}
 use native.Mathlib.Omega.{arith}
+use borrow.Author.Tests.{lt-leb, le-ltb, ltb-true, ltb-false}
+use mathlib.Core.Bool.{Bool, true, false, cond}
+use lib.Dec.{ltb}
 use lib.Arith.{digits-div, digits-mod}
-use lib.ListN.{length, set, length-append, take-append-drop}
-use lib.Seq.{sets, sets-eq, length-sets, set-comm}
-use Rattle.registers.specs.Bytes.{bigEndian, valueFrom, valueOf, laid}
+use lib.ListN.{length, take, drop, length-append}
+use Rattle.registers.specs.Bytes.{bigEndian, valueFrom, valueOf, readOf, writeNumber}
+use Rattle.registers.specs.Answers.{Ok, Room, Short, refused, accepted}
 
 pub length-bigEndian : (w v : ℕ) → length (bigEndian w v) ≡ w
 unfolding bigEndian
@@ -50,28 +51,27 @@ pub bigEndian-value : (bs : List ℕ) → AllBytes bs → bigEndian (length bs) 
 unfolding bigEndian
 bigEndian-value bs p = rw zero-add at (behind 0 0 bs p)
 
--- ---- laid
+-- ---- reading and writing at a width of at most 4
 
-pub laid-sets : (d : List ℕ) (at : ℕ) (s : List ℕ) → at + length s ≤ length d → laid d at s ≡ sets d at s
-unfolding laid
-laid-sets d at s h = sym (sets-eq s d at h)
+module _ (bs : List ℕ) (at w : ℕ) (h : w ≤ 4) where
+  reading : readOf bs at w ≡ cond (ltb (length bs) (at + w)) (refused Short) (accepted (valueOf (take w (drop at bs))))
+  reading = rw (le-ltb 4 w h)
 
-pub laid-nil : (d : List ℕ) (at : ℕ) → laid d at [] ≡ d
-unfolding laid
-laid-nil d at = rw (add-zero, append-nil) (take-append-drop at d)
+  pub read-short : (readOf bs at w .number ≡ 0 → ⊥) → (length bs < at + w) × (readOf bs at w ≡ refused Short)
+  read-short bad = go (ltb (length bs) (at + w)) refl (rw reading at bad)
+    where
+      go : (b : Bool) → ltb (length bs) (at + w) ≡ b → (cond (ltb (length bs) (at + w)) (refused Short) (accepted (valueOf (take w (drop at bs)))) .number ≡ 0 → ⊥)
+          → (length bs < at + w) × (readOf bs at w ≡ refused Short)
+      go true e n = (ltb-true (length bs) (at + w) e, reading ∙ rw e)
+      go false e n = absurd (n (rw e))
 
-pub length-laid : (d : List ℕ) (at : ℕ) (s : List ℕ) → at + length s ≤ length d → length (laid d at s) ≡ length d
-length-laid d at s h = ap length (laid-sets d at s h) ∙ length-sets d at s
+  pub read-value : readOf bs at w .number ≡ 0 → (at + w ≤ length bs) × (readOf bs at w ≡ accepted (valueOf (take w (drop at bs))))
+  read-value good = go (ltb (length bs) (at + w)) refl (rw reading at good)
+    where
+      go : (b : Bool) → ltb (length bs) (at + w) ≡ b → cond (ltb (length bs) (at + w)) (refused Short) (accepted (valueOf (take w (drop at bs)))) .number ≡ 0
+          → (at + w ≤ length bs) × (readOf bs at w ≡ accepted (valueOf (take w (drop at bs))))
+      go true e n = absurd (let k : _≡_ {A = ℕ} 11 0 = rw e at n in omega arith)
+      go false e n = (ltb-false (length bs) (at + w) e, reading ∙ rw e)
 
-pub sets-append : (d : List ℕ) (at : ℕ) (s t : List ℕ) → sets d at (s ++ t) ≡ sets (sets d at s) (at + length s) t
-sets-append d at [] t = rw add-zero
-sets-append d at (x ∷ s) t = rw (add-suc, ← (suc-add at (length s))) (sets-append (set d at x) (suc at) s t)
-
--- a store behind a run of stores may go first
-sets-set : (d : List ℕ) (at : ℕ) (s : List ℕ) (k b : ℕ) → at + length s ≤ k → set (sets d at s) k b ≡ sets (set d k b) at s
-sets-set d at [] k b h = refl
-sets-set d at (x ∷ s) k b h =
-    sets-set (set d at x) (suc at) s k b (omega arith) ∙ ap (λ (l : List ℕ). sets l (suc at) s) (set-comm d at k x b (omega arith))
-
-pub sets-snoc : (d : List ℕ) (at : ℕ) (s : List ℕ) (b : ℕ) → sets d at (s ++ b ∷ []) ≡ sets (set d (at + length s) b) at s
-sets-snoc d at s b = sets-append d at s (b ∷ []) ∙ sets-set d at s (at + length s) b (omega arith)
+pub write-number : (size at w v : ℕ) → w ≤ 4 → v < 256 ^ w → writeNumber size at w v ≡ cond (ltb size (at + w)) Room Ok
+write-number size at w v h k = rw (le-ltb 4 w h, lt-leb (256 ^ w) v k)

@@ -3,3 +3,4 @@ pub mod Widths
 pub mod Fields
 pub mod Bytes
 pub mod Clock
+pub mod Laid

@@ -57,3 +57,11 @@ largestOf address = 256 ^ widthOf address - 1
 -- a value is not too wide for its register
 abbrev pub holds : ℕ → ℕ → Bool
 holds address value = ltb value (256 ^ widthOf address)
+
+-- a register write
+pub record Write : Type 0 where
+  pub address : ℕ
+  pub value : ℕ
+
+abbrev pub wrote : ℕ → ℕ → Write
+wrote a v = record { address = a; value = v }

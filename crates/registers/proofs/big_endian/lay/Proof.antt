@@ -10,7 +10,8 @@ use lib.ListN.{length, set, length-set}
 use lib.Seq.{sets}
 use denote.Ref.{now}
 use Rattle.registers.specs.Bytes.{bigEndian, laid}
-use Rattle.registers.proofs.Bytes.{length-bigEndian, laid-sets, sets-snoc}
+use Rattle.registers.proofs.Bytes.{length-bigEndian}
+use Rattle.registers.proofs.Laid.{laid-sets, sets-snoc}
 use Rattle.registers.proofs.big_endian.lay.Statement.{statement}
 use Rattle.registers.proofs.big_endian.lay.Tie as tie
 

@@ -1,7 +1,7 @@
 -- `registers::big_endian::write` meets its contract. Assumes nothing.
 use mathlib.Core.Path.{sym, _∙_}
 use borrow.Author.Tests.{ne-eqb}
-use Rattle.registers.proofs.Bytes.{laid-nil}
+use Rattle.registers.proofs.Laid.{laid-nil}
 use borrow.Author.Needs.{needs}
 use Rattle.registers.proofs.big_endian.write.Statement.{statement}
 use Rattle.registers.proofs.big_endian.write.Tie as tie
