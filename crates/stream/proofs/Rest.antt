@@ -2,7 +2,7 @@
 --     rest-zero, rest-end, rest-cons   all, none, and one more
 --     fault-here, fault-later          the first bad write decides
 --     good-head                        the first of good writes is good, and so are the others
---     fault-none                       a write with no fault: a register, and a value that it holds
+--     fault-none, fault-clear          a write has no fault exactly if it names a register that holds its value
 use mathlib.Core.Path.{_≡_, refl}
 use mathlib.Core.Bool.{Bool, true, false, cond}
 use mathlib.Core.List.{List, [], _∷_}
@@ -10,7 +10,7 @@ use Prim.Native.Nat.{ℕ, suc, _+_, _-_, _^_, _≤_, _<_}
 use native.Mathlib.Nat.{sub-zero}
 use native.Mathlib.Numerals.{add-one}
 use native.Mathlib.Omega.{arith}
-use borrow.Author.Tests.{ne-eqb, eq-eqb, eqb-true, eqb-false, ltb-true, ltb-false}
+use borrow.Author.Tests.{ne-eqb, eq-eqb, eqb-true, eqb-false, lt-ltb, le-ltb, ltb-true, ltb-false}
 use lib.Dec.{ltb, eqb}
 use lib.ListN.{length, getD, drop}
 use lib.Seq.{drop-cons}
@@ -51,6 +51,9 @@ fault-none w = go (ltb 24 (w .address)) (holds (w .address) (w .value)) refl ref
     go true b e f z = absurd (omega arith)
     go false true e f z = (omega (arith, ltb-false 24 (w .address) e), ltb-true (w .value) (256 ^ widthOf (w .address)) f)
     go false false e f z = absurd (omega arith)
+
+pub fault-clear : (w : Write) → w .address < 25 → w .value < 256 ^ widthOf (w .address) → writeFault w ≡ 0
+fault-clear w h k = rw (le-ltb 24 (w .address) (omega arith), lt-ltb (w .value) (256 ^ widthOf (w .address)) k)
 
 pub good-head : (w : Write) (ws : List Write) → faultOf (w ∷ ws) ≡ 0 → (writeFault w ≡ 0) × (faultOf ws ≡ 0)
 unfolding faultOf

@@ -1,0 +1,3 @@
+pub mod Sizes
+pub mod Puts
+pub mod Left

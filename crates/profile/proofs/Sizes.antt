@@ -1,0 +1,94 @@
+-- How many bytes the writes of a step take: the rules count what the encoding has.
+--     encode-given, encode-absent   the bytes of a value that is given, and of one that is not
+--     length-given     as many as it costs
+--     encode-push      a push's bytes, CSR's before the others
+--     length-push      as many as the rules say
+--     padding-writes   the padding as two values, LSRR before CSR
+--     length-padding   as many as the rules say
+--     padding-fits     a length that is not full has room for its padding
+--     held-below       a value that is not above some number is held where that is
+--     padded-quarters  a padded length is a multiple of four
+use mathlib.Core.Path.{_≡_, refl, ap, _∙_}
+use mathlib.Core.Bool.{false}
+use mathlib.Core.List.{[], _∷_, _++_, append-assoc}
+use Prim.Native.Nat.{ℕ, zero, suc, _+_, _*_, _/_, _%_, _^_, _≤_, _<_}
+use native.Mathlib.Nat.{lt-of-le-of-lt}
+use borrow.Author.Tests.{ltb-false}
+use native.Mathlib.Omega.{arith}
+use lib.ListN.{length, length-append}
+use Rattle.registers.specs.Registers.{Write, wrote, widthOf, CSR, CFTW0, CPOW0, ACR, LSRR}
+use Rattle.stream.specs.Streams.{writeBytes, encode}
+use Rattle.stream.proofs.Streams.{encode-one, encode-append, length-write}
+use Rattle.profile.specs.declared.Value.{Value}
+use Rattle.profile.specs.declared.Value.the-variants.{Given, Absent}
+use Rattle.profile.specs.Rules.{cost, above, pushSize, paddingBy, padding, given, csr, pushWrites, paddingWritesBy, paddingWrites}
+use Rattle.profile.specs.Lent.{Held, lsrrBy, csrBy}
+
+pub encode-given : (a v : ℕ) → encode (given a (Given v)) ≡ writeBytes (wrote a v)
+encode-given a v = encode-one (wrote a v)
+
+pub encode-absent : (a : ℕ) → encode (given a Absent) ≡ []
+unfolding encode
+encode-absent a = refl
+
+pub length-given : (a : ℕ) (v : Value) → length (encode (given a v)) ≡ cost v (suc (widthOf a))
+length-given a (Given v) = ap length (encode-given a v) ∙ length-write (wrote a v)
+length-given a Absent = ap length (encode-absent a)
+
+pub encode-push : (w : Write) (t p a : Value) → encode (w ∷ (given CFTW0 t ++ (given CPOW0 p ++ given ACR a))) ≡ writeBytes w ++ (encode (given CFTW0 t) ++ encode (given CPOW0 p) ++ encode (given ACR a))
+unfolding encode
+encode-push w t p a = simp (encode-append, append-assoc)
+
+pub length-push : (mode mask : ℕ) (t p a : Value) → length (encode (pushWrites mode mask t p a)) ≡ pushSize t p a
+unfolding pushWrites widthOf
+length-push mode mask t p a = rw (encode-push (csr mode mask) t p a) (simp (length-append, length-write, length-given) (omega arith))
+
+pub padding-by : (mode r : ℕ) → paddingWritesBy mode r ≡ given LSRR (lsrrBy r) ++ given CSR (csrBy mode r)
+padding-by mode zero = refl
+padding-by mode (suc zero) = refl
+padding-by mode (suc (suc zero)) = refl
+padding-by mode (suc (suc (suc r))) = refl
+
+pub padding-writes : (mode n : ℕ) → encode (paddingWrites mode n) ≡ encode (given LSRR (lsrrBy (n % 4))) ++ encode (given CSR (csrBy mode (n % 4)))
+unfolding paddingWrites
+padding-writes mode n = rw (padding-by mode (n % 4), encode-append)
+
+by-rest : (mode r : ℕ) → length (encode (given LSRR (lsrrBy r))) + length (encode (given CSR (csrBy mode r))) ≡ paddingBy r
+unfolding widthOf
+by-rest mode zero = omega (arith, length-given LSRR Absent, length-given CSR Absent)
+by-rest mode (suc zero) = omega (arith, length-given LSRR (Given 0), length-given CSR Absent)
+by-rest mode (suc (suc zero)) = omega (arith, length-given LSRR Absent, length-given CSR (csrBy mode 2))
+by-rest mode (suc (suc (suc r))) = omega (arith, length-given LSRR (Given 0), length-given CSR (csrBy mode 2))
+
+pub length-padding : (mode n : ℕ) → length (encode (paddingWrites mode n)) ≡ padding n
+length-padding mode n = rw (padding-writes mode n, length-append) (by-rest mode (n % 4))
+
+-- a size that is a multiple of four
+pub fits-by : (size n r : ℕ) → size % 4 ≡ 0 → n % 4 ≡ r → n ≤ size → (n + 1 ≡ size → ⊥) → n + paddingBy r ≤ size
+fits-by size n zero c e h k = omega arith
+fits-by size n (suc zero) c e h k = omega arith
+fits-by size n (suc (suc zero)) c e h k = omega arith
+fits-by size n (suc (suc (suc r))) c e h k = omega arith
+
+pub padding-fits : (size n : ℕ) → size % 4 ≡ 0 → n ≤ size → (n + 1 ≡ size → ⊥) → n + padding n ≤ size
+padding-fits size n c h k = fits-by size n (n % 4) c refl h k
+
+quarters-by : (n r : ℕ) → r < 4 → n % 4 ≡ r → (n + paddingBy r) / 4 * 4 ≡ n + paddingBy r
+quarters-by n zero l e = omega arith
+quarters-by n (suc zero) l e = omega arith
+quarters-by n (suc (suc zero)) l e = omega arith
+quarters-by n (suc (suc (suc zero))) l e = omega arith
+quarters-by n (suc (suc (suc (suc r)))) l e = omega arith
+
+pub padded-quarters : (n : ℕ) → (n + padding n) / 4 * 4 ≡ n + padding n
+padded-quarters n = quarters-by n (n % 4) (omega arith) refl
+
+pub padding-most : (r : ℕ) → paddingBy r ≤ 5
+padding-most zero = omega arith
+padding-most (suc zero) = omega arith
+padding-most (suc (suc zero)) = omega arith
+padding-most (suc (suc (suc r))) = omega arith
+
+pub held-below : (a most : ℕ) (v : Value) → above most v ≡ false → most < 256 ^ widthOf a → Held a v
+held-below a most (Given v) e h = lt-of-le-of-lt (ltb-false most v e) h
+held-below a most Absent e h = tt

@@ -1,0 +1,63 @@
+-- A serializer whose length and bytes are lent: what a push and a finalising give and leave. Definitions only.
+use Prim.Native.Nat.{ℕ, zero, suc, _+_, _-_, _*_, _^_, _≤_, _<_}
+use mathlib.Core.Path.{_≡_}
+use mathlib.Core.List.{List}
+use lib.ListN.{length, drop}
+use Rattle.registers.specs.Registers.{CPOW0, ACR, widthOf}
+use Rattle.registers.specs.Csr.{byteOf}
+use Rattle.registers.specs.Bytes.{laid}
+use Rattle.profile.specs.declared.ProfileSerializer.{ProfileSerializer}
+use Rattle.profile.specs.declared.Tuning.{Tuning}
+use Rattle.profile.specs.declared.Value.{Value}
+use Rattle.profile.specs.declared.Value.the-variants.{Given, Absent}
+use Rattle.profile.specs.Rules.{pushSize, pushNumber, padding, quarter, finalizeNumber}
+use Rattle.profile.specs.Serializer.{pushOf, Finalizes, wordsOf}
+
+abbrev pub held : ℕ → ℕ → List ℕ → ProfileSerializer
+held mode length bytes = record { mode = mode; length = length; bytes = bytes }
+
+-- the number, the length and the bytes at exit are those of a push by value
+pub record Pushes (mode length : ℕ) (bytes : List ℕ) (mask : ℕ) (tuning : Tuning) (phase acr : Value) (number length′ : ℕ) (bytes′ : List ℕ) : Type 0 where
+  pub pushes : record { number = number; serializer = held mode length′ bytes′ } ≡ pushOf (held mode length bytes) mask tuning phase acr
+
+-- the number, the count, the record and the words at exit are those of finalising by value
+pub record Seals (mode length : ℕ) (bytes words : List ℕ) (number length′ : ℕ) (bytes′ : List ℕ) (count : ℕ) (words′ : List ℕ) : Type 0 where
+  pub seals : Finalizes (held mode length bytes) words (record { number = number; count = count; serializer = held mode length′ bytes′ }) words′
+
+-- ---- for the code's own contracts
+
+-- a value that its register holds
+abbrev pub Held : ℕ → Value → Type 0
+Held a (Given v) = v < 256 ^ widthOf a
+Held a Absent = Unit {0}
+
+-- the number of a push, and what Ok tells
+pub record PushJudged (mode n mask : ℕ) (word phase acr : Value) (r : ℕ) : Type 0 where
+  pub number : r ≡ pushNumber mode n mask word phase acr
+  pub good : r ≡ 0 → (mode ≤ 3) × (mask ≤ 15) × Held CPOW0 phase × Held ACR acr × (n + pushSize word phase acr ≤ 32)
+
+-- the number of a finalising, and what Ok tells
+pub record FinalizeJudged (mode n words r : ℕ) : Type 0 where
+  pub number : r ≡ finalizeNumber mode n words
+  pub good : r ≡ 0 → (mode ≤ 3) × (n + padding n ≤ 32) × (quarter n ≤ words)
+
+-- padding as values, by the length modulo 4
+abbrev pub lsrrBy : ℕ → Value
+lsrrBy zero = Absent
+lsrrBy (suc zero) = Given 0
+lsrrBy (suc (suc zero)) = Absent
+lsrrBy (suc (suc (suc r))) = Given 0
+
+abbrev pub csrBy : ℕ → ℕ → Value
+csrBy mode zero = Absent
+csrBy mode (suc zero) = Absent
+csrBy mode (suc (suc r)) = Given (byteOf mode 15)
+
+-- a list laid over bytes from a place on, and the place behind it
+pub record Puts (bytes : List ℕ) (at : ℕ) (s : List ℕ) (next : ℕ) (bytes′ : List ℕ) : Type 0 where
+  pub place : next ≡ at + length s
+  pub after : bytes′ ≡ laid bytes at s
+
+-- of n words those from i on, laid over the buffer
+abbrev pub leftOf : ℕ → ℕ → List ℕ → List ℕ → List ℕ
+leftOf n i words bytes = laid words i (wordsOf (n - i) (drop (i * 4) bytes))

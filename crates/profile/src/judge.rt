@@ -1,0 +1,123 @@
+// The rules: what a step gives back, and how long it is.
+ghost use mathlib.Core.Path.{_≡_};
+ghost use Prim.Native.Nat.{_+_, _*_, _≤_};
+ghost use Rattle.registers.specs.Registers.{CFTW0};
+ghost use Rattle.profile.specs.Rules.{bitsOf, wordOf, cost, above, padding, quarter};
+ghost use Rattle.profile.specs.Lent.{Held, PushJudged, FinalizeJudged};
+use crate::Tuning;
+use crate::Value;
+use registers::answer;
+
+// A tuning word's bits, in two's complement.
+fn bits(z: i32) -> u32
+    ensures { λ r. ⌜ (r ≡ bitsOf z) × (r ≤ 4294967295) ⌝ }
+{
+    if z < 0 {
+        4294967295 - ((-1 - z) as u32)
+    } else {
+        z as u32
+    }
+}
+
+pub(crate) fn word(tuning: Tuning) -> Value
+    ensures { λ r. ⌜ (r ≡ wordOf tuning) × Held CFTW0 r ⌝ }
+{
+    match tuning {
+        Tuning::Tune(z) => Value::Given(bits(z)),
+        Tuning::Keep => Value::Absent,
+    }
+}
+
+fn cost(value: Value, size: usize) -> usize
+    ensures { λ r. ⌜ (r ≡ cost value size) × (r ≤ size) ⌝ }
+{
+    match value {
+        Value::Given(_v) => size,
+        Value::Absent => 0,
+    }
+}
+
+fn above(most: u32, value: Value) -> bool
+    ensures { λ r. ⌜ r ≡ above most value ⌝ }
+{
+    match value {
+        Value::Given(v) => most < v,
+        Value::Absent => false,
+    }
+}
+
+// The number of a push. Of Ok it is known besides what the push goes on to need.
+pub(crate) fn push(
+    mode: u32,
+    length: usize,
+    mask: u32,
+    word: Value,
+    phase: Value,
+    acr: Value,
+) -> u32
+    ensures { λ r. ⌜ PushJudged mode length mask word phase acr r ⌝ }
+{
+    if 3 < mode {
+        return answer::MODE;
+    }
+    if 15 < mask {
+        return answer::MASK;
+    }
+    if above(16383, phase) {
+        return answer::WORD;
+    }
+    if above(16777215, acr) {
+        return answer::WORD;
+    }
+    let size = 2 + cost(word, 5) + cost(phase, 3) + cost(acr, 4);
+    if 32 - size < length {
+        return answer::ROOM;
+    }
+    if length + size == 31 {
+        return answer::ROOM;
+    }
+    answer::OK
+}
+
+fn padding(length: usize) -> usize
+    ensures { λ r. ⌜ (r ≡ padding length) × (r ≤ 5) ⌝ }
+{
+    let r = length % 4;
+    if r == 0 {
+        return 0;
+    }
+    if r == 1 {
+        return 3;
+    }
+    if r == 2 {
+        return 2;
+    }
+    5
+}
+
+// How many words the profile takes once it is padded.
+pub(crate) fn quarter(length: usize) -> usize
+    requires { ⌜ length ≤ 32 ⌝ }
+    ensures { λ r. ⌜ (r ≡ quarter length) × (r * 4 ≡ length + padding length) ⌝ }
+{
+    (length + padding(length)) / 4
+}
+
+// The number of a finalising. Of Ok it is known besides what finalising goes on to need.
+pub(crate) fn finalize(mode: u32, length: usize, words: usize) -> u32
+    ensures { λ r. ⌜ FinalizeJudged mode length words r ⌝ }
+{
+    if 3 < mode {
+        return answer::MODE;
+    }
+    if 32 < length {
+        return answer::ROOM;
+    }
+    if length == 31 {
+        return answer::ROOM;
+    }
+    if words < quarter(length) {
+        return answer::ROOM;
+    }
+    answer::OK
+}
