@@ -1,12 +1,15 @@
 -- What stands at a place of a stream, by the tests that tell.
 --     at-end, at-address   the end, and a first byte above 0x18
 --     at-fault, at-one     a value that is cut off, and a write
-use mathlib.Core.Path.{_≡_}
-use mathlib.Core.List.{List}
+--     one-address          a write's address is a register's
+use mathlib.Core.Path.{_≡_, refl}
+use mathlib.Core.Bool.{Bool, true, false}
+use mathlib.Core.List.{List, [], _∷_}
 use Prim.Native.Nat.{ℕ, suc, _+_, _-_, _≤_, _<_}
 use native.Mathlib.Numerals.{add-one}
 use native.Mathlib.Omega.{arith}
-use borrow.Author.Tests.{lt-ltb, le-ltb}
+use borrow.Author.Tests.{lt-ltb, le-ltb, ltb-false}
+use lib.Dec.{ltb}
 use lib.ListN.{length, getD, drop, length-drop, drop-of-length-le}
 use lib.Seq.{drop-cons}
 use Rattle.registers.specs.Registers.{widthOf}
@@ -42,3 +45,15 @@ module _ (bs : List ℕ) (at : ℕ) where
       at-one good =
           let (s, e) = read-value bs (at + 1) w four (rw read at good) in
           (rw (read, e, add-one, drop-cons bs at 0 h, ← e′, le-ltb 24 a l, length-drop, ← f, le-ltb (length bs - suc at) w (omega arith)), omega arith)
+
+-- by the two tests on the first byte
+front : (b : ℕ) (bs : List ℕ) (t u : Bool) → ltb 24 b ≡ t → ltb (length bs) (widthOf b) ≡ u → (a v w : ℕ) → One a v w ≡ stepOf (b ∷ bs) → a < 25
+unfolding stepOf
+front b bs true u e f a v w s = let p = rw e at s in let z : _≡_ {A = ℕ} 0 1 = cc in absurd (omega arith)
+front b bs false true e f a v w s = let p = rw (e, f) at s in let z : _≡_ {A = ℕ} 0 1 = cc in absurd (omega arith)
+front b bs false false e f a v w s = let p = rw (e, f) at s in let g : a ≡ b = cc in omega (arith, ltb-false 24 b e)
+
+pub one-address : (bs : List ℕ) (a v w : ℕ) → One a v w ≡ stepOf bs → a < 25
+unfolding stepOf
+one-address [] a v w s = let z : _≡_ {A = ℕ} 0 1 = cc in absurd (omega arith)
+one-address (b ∷ bs) a v w s = front b bs (ltb 24 b) (ltb (length bs) (widthOf b)) refl refl a v w s

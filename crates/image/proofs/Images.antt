@@ -1,0 +1,96 @@
+-- What writes make of an image.
+--     length-give, length-write, length-apply   it keeps its length
+--     apply-append                              lists of writes go one after the other
+--     give-stays                                a word that no selected channel's register stands at stays
+--     misses                                    a word that no channel's register stands at is reached by no mask
+--     selected-give                             a register from 0x03 up leaves the selection
+--     selected-select                           CSR set to a mask selects it
+--     past-stays, past-apply                    words from 91 on stay
+use mathlib.Core.Path.{_≡_, refl, _∙_, subst}
+use mathlib.Core.Logic.{_≢_}
+use mathlib.Core.Bool.{Bool, true, false, cond, not, _&&_, _||_}
+use mathlib.Core.List.{List, [], _∷_, _++_}
+use Prim.Native.Nat.{ℕ, zero, suc, _+_, _*_, _≤_, _<_}
+use native.Mathlib.Omega.{arith}
+use borrow.Author.Tests.{ne-eqb}
+use lib.Dec.{T, eqb, ltb, T-not, eqb-refl}
+use lib.ListN.{length, getD, set, length-set}
+use lib.Seq.{getD-set-other, getD-set-same}
+use Rattle.registers.specs.Registers.{Write}
+use Rattle.registers.specs.Csr.{byteOf}
+use Rattle.stream.specs.Streams.{Good}
+use Rattle.image.specs.Image.{selects, reaches, giveTo, give, selected, select, write, apply}
+
+either : (P : List ℕ → Type 0) (b : Bool) {x y : List ℕ} → P x → P y → P (cond b x y)
+either P true p q = p
+either P false p q = q
+
+-- ---- lengths
+
+abbrev Long : List ℕ → List ℕ → Type 0
+Long image image′ = length image′ ≡ length image
+
+length-giveTo : (n mask a v : ℕ) (image : List ℕ) → Long image (giveTo n mask a v image)
+length-giveTo zero mask a v image = refl
+length-giveTo (suc i) mask a v image =
+    let h = length-giveTo i mask a v image in
+    either (Long image) (selects mask i) (length-set (giveTo i mask a v image) (22 * i + a) v ∙ h) h
+
+pub length-give : (mask a v : ℕ) (image : List ℕ) → length (give mask a v image) ≡ length image
+length-give mask a v image = length-giveTo 4 mask a v image
+
+pub length-write : (w : Write) (image : List ℕ) → length (write w image) ≡ length image
+length-write w image = either (Long image) (ltb (w .address) 3) (length-set image (w .address) (w .value)) (length-give (selected image) (w .address) (w .value) image)
+
+pub length-apply : (ws : List Write) (image : List ℕ) → length (apply ws image) ≡ length image
+length-apply [] image = refl
+length-apply (w ∷ ws) image = length-apply ws (write w image) ∙ length-write w image
+
+-- ---- writes one after the other
+
+pub apply-append : (xs ys : List Write) (image : List ℕ) → apply (xs ++ ys) image ≡ apply ys (apply xs image)
+apply-append [] ys image = refl
+apply-append (w ∷ xs) ys image = apply-append xs ys (write w image)
+
+-- ---- what stays
+
+pub apart : (m n : ℕ) → T (not (eqb m n)) → m ≢ n
+apart m n t e = T-not (eqb m n) t (subst (λ (k : ℕ). T (eqb m k)) e (eqb-refl m))
+
+first : (a : Bool) → T (not (a && true)) → T (not a)
+first true t = t
+first false t = tt
+
+pub nor : (a b : Bool) → T (not (a || b)) → T (not a) × T (not b)
+nor true b t = absurd t
+nor false b t = (tt, t)
+
+store-stays : (on : Bool) (k v : ℕ) (image : List ℕ) (j : ℕ) → T (not (eqb j k && on)) → getD (cond on (set image k v) image) j 0 ≡ getD image j 0
+store-stays true k v image j t = getD-set-other image k j v 0 (apart j k (first (eqb j k) t))
+store-stays false k v image j t = refl
+
+pub give-stays : (n mask a v : ℕ) (image : List ℕ) (j : ℕ) → T (not (reaches n mask a j)) → getD (giveTo n mask a v image) j 0 ≡ getD image j 0
+give-stays zero mask a v image j t = refl
+give-stays (suc i) mask a v image j t =
+    let h = nor (eqb j (22 * i + a) && selects mask i) (reaches i mask a j) t in
+    store-stays (selects mask i) (22 * i + a) v (giveTo i mask a v image) j (h .0) ∙ give-stays i mask a v image j (h .1)
+
+-- where no channel's register a stands, no mask reaches
+pub misses : (n mask a j : ℕ) → ((i : ℕ) → i < n → j ≢ 22 * i + a) → T (not (reaches n mask a j))
+misses zero mask a j h = tt
+misses (suc i) mask a j h = rw (ne-eqb j (22 * i + a) (h i (omega arith))) (misses i mask a j (λ k l. h k (omega arith)))
+
+pub selected-give : (mask a v : ℕ) (image : List ℕ) → 3 ≤ a → selected (give mask a v image) ≡ selected image
+selected-give mask a v image h = rw (give-stays 4 mask a v image 0 (misses 4 mask a 0 (λ i l e. omega arith)))
+
+pub selected-select : (mode mask : ℕ) (image : List ℕ) → 0 < length image → mode ≤ 3 → selected (select mode mask image) ≡ mask
+selected-select mode mask image h k = rw (getD-set-same image 0 (byteOf mode mask) 0 h) (omega arith)
+
+pub past-stays : (w : Write) (image : List ℕ) (j : ℕ) → w .address < 25 → 91 ≤ j → getD (write w image) j 0 ≡ getD image j 0
+past-stays w image j h k =
+    either (λ (l : List ℕ). getD l j 0 ≡ getD image j 0) (ltb (w .address) 3) (getD-set-other image (w .address) j (w .value) 0 (λ e. omega arith))
+    (give-stays 4 (selected image) (w .address) (w .value) image j (misses 4 (selected image) (w .address) j (λ i l e. omega arith)))
+
+pub past-apply : (ws : List Write) (image : List ℕ) (j : ℕ) → Good ws → 91 ≤ j → getD (apply ws image) j 0 ≡ getD image j 0
+past-apply [] image j g k = refl
+past-apply (w ∷ ws) image j g k = past-apply ws (write w image) j (g .2) k ∙ past-stays w image j (g .0) k
