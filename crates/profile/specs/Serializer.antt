@@ -5,10 +5,11 @@ use mathlib.Core.List.{List, [], _∷_}
 use mathlib.Core.Path.{_≡_}
 use lib.Dec.{eqb, ltb}
 use lib.ListN.{length, getD, take, drop, replicate}
-use Rattle.registers.specs.Answers.{Ok, Mode}
+use Rattle.registers.specs.Answers.{Ok, Mode, Room}
 use Rattle.registers.specs.Registers.{Write}
 use Rattle.registers.specs.Bytes.{laid}
 use Rattle.stream.specs.Streams.{encode}
+use Rattle.image.specs.Feed.{feedNumber, feedOf}
 use Rattle.profile.specs.declared.ProfileSerializer.{ProfileSerializer}
 use Rattle.profile.specs.declared.Stepped.{Stepped}
 use Rattle.profile.specs.declared.Finalized.{Finalized}
@@ -61,3 +62,11 @@ pub record Finalizes (s : ProfileSerializer) (words : List ℕ) (r : Finalized) 
 -- the bytes that are meant: those below the length
 abbrev pub streamOf : ProfileSerializer → List ℕ
 streamOf s = take (s .length) (s .bytes)
+
+-- fed to an image: a length above 32 is Room; then as any stream
+abbrev pub feedNumberOf : ProfileSerializer → List ℕ → ℕ
+feedNumberOf s image = cond (ltb 32 (s .length)) Room (feedNumber (streamOf s) image)
+
+pub record FeedsFrom (s : ProfileSerializer) (image : List ℕ) (r : ℕ) (image′ : List ℕ) : Type 0 where
+  pub number : r ≡ feedNumberOf s image
+  pub after : image′ ≡ cond (ltb 32 (s .length)) image (feedOf (streamOf s) image)

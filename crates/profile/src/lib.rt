@@ -1,6 +1,6 @@
 // The profile serializer: register writes collected in 32 bytes, to be sent as words.
 ghost use mathlib.Core.Path.{_≡_};
-ghost use Rattle.profile.specs.Serializer.{newOf, pushOf, Finalizes};
+ghost use Rattle.profile.specs.Serializer.{newOf, pushOf, Finalizes, FeedsFrom};
 use registers::answer;
 
 mod judge;
@@ -106,4 +106,16 @@ pub fn finalize(serializer: ProfileSerializer, words: &mut [u32]) -> Finalized
             bytes,
         },
     }
+}
+
+// Feeds the profile's bytes to an image of the chip's registers.
+pub fn feed(serializer: ProfileSerializer, image: &mut [u32]) -> u32
+    ensures { λ r. ⌜ FeedsFrom serializer (now (image .entry)) r (now (image .exit)) ⌝ }
+{
+    let length = serializer.length;
+    let bytes = serializer.bytes;
+    if 32 < length {
+        return answer::ROOM;
+    }
+    image::feed(&bytes[0..length], image)
 }
