@@ -12,10 +12,10 @@ use Rattle.profile.specs.declared.Tuning.the-variants.{Tune, Keep}
 use Rattle.profile.specs.declared.Value.{Value}
 use Rattle.profile.specs.declared.Value.the-variants.{Given, Absent}
 
--- the tuning word is a signed 32-bit number in two's complement
+-- the tuning word in two's complement, 32 bits of it
 abbrev pub bitsOf : ℤ → ℕ
-bitsOf (pos n) = n
-bitsOf (negsuc n) = 4294967295 - n
+bitsOf (pos n) = n % 4294967296
+bitsOf (negsuc n) = 4294967295 - n % 4294967296
 
 abbrev pub wordOf : Tuning → Value
 wordOf (Tune z) = Given (bitsOf z)

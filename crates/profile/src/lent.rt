@@ -48,9 +48,9 @@ pub fn finalize(
         return number;
     }
     let n = judge::quarter(at);
-    let end = lay::pad(bytes, at, mode);
+    let padded = lay::pad(bytes, at, mode);
     words::copy(bytes, n, words);
-    *length = end;
+    *length = padded;
     *count = n;
     answer::OK
 }

@@ -3,6 +3,7 @@
 use Prim.Native.Nat.{ℕ, zero, suc, _+_, _%_}
 use mathlib.Core.Bool.{Bool, false, _||_, not, cond}
 use mathlib.Core.List.{List, [], _∷_}
+use mathlib.Core.Path.{_≡_}
 use lib.Dec.{T, eqb}
 use Rattle.registers.specs.Answers.{Ok}
 use Rattle.registers.specs.Registers.{CSR, CFTW0, CPOW0, ACR, LSRR}
@@ -77,3 +78,8 @@ touches (Finalize words) j = eqb j CSR || reaches 4 15 LSRR j
 abbrev pub Spared : ℕ → List Step → Type 0
 Spared j [] = Unit {0}
 Spared j (step ∷ steps) = T (not (touches step j)) × Spared j steps
+
+-- no accepted step names word j: the steps are judged along the way, and a refused one may name what it likes
+abbrev pub SparedBy : ℕ → ℕ → Told → List Step → Type 0
+SparedBy mode j x [] = Unit {0}
+SparedBy mode j x (step ∷ steps) = (numberAt mode (x .length) step ≡ Ok → T (not (touches step j))) × SparedBy mode j (tell mode x step) steps

@@ -62,7 +62,7 @@ pub fn scan(bytes: &[u8]) -> Tally
     ensures { λ r. ⌜ r ≡ countOf (decodeOf (now (bytes .entry))) ⌝ }
 {
     let mut at = 0;
-    let mut count = 0;
+    let mut writes = 0;
     loop {
         match step_at(bytes, at) {
             Step::One {
@@ -71,7 +71,7 @@ pub fn scan(bytes: &[u8]) -> Tally
                 width,
             } => {
                 at = at + 1 + width;
-                count = count + 1;
+                writes = writes + 1;
             }
             Step::Fault(number) => {
                 return Tally { number, count: 0 };
@@ -79,7 +79,7 @@ pub fn scan(bytes: &[u8]) -> Tally
             Step::End => {
                 return Tally {
                     number: answer::OK,
-                    count,
+                    count: writes,
                 };
             }
         }

@@ -39,8 +39,8 @@ add-at c = omega (arith, here c)
 add-at-2 : tie.Need-add-at-2 Inv-loop μ-loop
 add-at-2 c = omega (arith, here c)
 
-add-count : tie.Need-add-count Inv-loop μ-loop
-add-count c = omega (arith, here c)
+add-writes : tie.Need-add-writes Inv-loop μ-loop
+add-writes c = omega (arith, here c)
 
 loop-less : tie.Need-loop-less Inv-loop μ-loop
 loop-less c = omega (arith, here c)
@@ -65,4 +65,4 @@ returns-2 c =
     rw (stop (l .1) (sym (c .enum-told .given .1) ∙ c .before .before .step-at .ensures .0), l .2)
 
 pub scan-spec : {M : Type 1} → statement M
-scan-spec = tie.close (tie.spec Inv-loop μ-loop loop-holds (λ c κs. tt) (λ c. search needs) add-at add-at-2 add-count loop-less loop-again (λ c. search needs) returns (λ c. search needs) returns-2)
+scan-spec = tie.close (tie.spec Inv-loop μ-loop loop-holds (λ c κs. tt) (λ c. search needs) add-at add-at-2 add-writes loop-less loop-again (λ c. search needs) returns (λ c. search needs) returns-2)

@@ -20,10 +20,10 @@ flip n = rw (le-ltb (suc n) 1 (omega arith)) (ap pos (omega arith))
 
 below : (z y : ℤ) → y ≡ z → SFits w32 z → ltZ y (pos 0) ≡ true → (n : ℕ) × (bitsOf z ≡ 4294967295 - n) × (negsuc 0 -ℤ y ≡ pos n) × (n < 2147483648)
 below (pos n) y e f t = absurd (not-suc-le-zero (ltb-true n 0 (rw e at t)))
-below (negsuc n) y e f t = (n, refl, rw e (flip n), f .sfits)
+below (negsuc n) y e f t = let h : n < 2147483648 = f .sfits in (n, omega arith, rw e (flip n), h)
 
 upward : (z y : ℤ) → y ≡ z → SFits w32 z → ltZ y (pos 0) ≡ false → (n : ℕ) × (bitsOf z ≡ n) × (y ≡ pos n) × (n < 2147483648)
-upward (pos n) y e f t = (n, refl, e, f .sfits)
+upward (pos n) y e f t = let h : n < 2147483648 = f .sfits in (n, omega arith, e, h)
 upward (negsuc n) y e f t = absurd (Bool.true≢false (rw e at t))
 
 small : (n : ℕ) → n < 2147483648 → toZ w32 (ofZ w32 (pos n)) ≡ pos n
