@@ -62,7 +62,7 @@ pub fn scan(bytes: &[u8]) -> Tally
     ensures { λ r. ⌜ r ≡ countOf (decodeOf (now (bytes .entry))) ⌝ }
 {
     let mut at = 0;
-    let mut writes = 0;
+    let mut writes: usize = 0;
     loop {
         match step_at(bytes, at) {
             Step::One {

@@ -1,5 +1,5 @@
 -- `profile::judge::bits` is two's complement. A negative z is -(n + 1), and -1 - z is n.
-use mathlib.Core.Path.{_≡_, refl, sym, ap}
+use mathlib.Core.Path.{_≡_, sym, ap}
 use mathlib.Core.Bool.{true, false}
 use mathlib.Core.Bool
 use Prim.Native.Nat.{ℕ, suc, _-_, _<_}
