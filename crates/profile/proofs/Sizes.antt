@@ -7,6 +7,7 @@
 --     length-padding   as many as the rules say
 --     padding-fits     a length that is not full has room for its padding
 --     held-below       a value that is not above some number is held where that is
+--     word-held        a tuning word's bits are held by its register
 --     padded-quarters  a padded length is a multiple of four
 use mathlib.Core.Path.{_≡_, refl, ap, _∙_}
 use mathlib.Core.Bool.{false}
@@ -15,13 +16,16 @@ use Prim.Native.Nat.{ℕ, zero, suc, _+_, _*_, _/_, _%_, _^_, _≤_, _<_}
 use native.Mathlib.Nat.{lt-of-le-of-lt}
 use borrow.Author.Tests.{ltb-false}
 use native.Mathlib.Omega.{arith}
+use lib.IntN.{pos, negsuc}
 use lib.ListN.{length, length-append}
 use Rattle.registers.specs.Registers.{Write, wrote, widthOf, CSR, CFTW0, CPOW0, ACR, LSRR}
 use Rattle.stream.specs.Streams.{writeBytes, encode}
 use Rattle.stream.proofs.Streams.{encode-one, encode-append, length-write}
+use Rattle.profile.specs.declared.Tuning.{Tuning}
+use Rattle.profile.specs.declared.Tuning.the-variants.{Tune, Keep}
 use Rattle.profile.specs.declared.Value.{Value}
 use Rattle.profile.specs.declared.Value.the-variants.{Given, Absent}
-use Rattle.profile.specs.Rules.{cost, above, pushSize, paddingBy, padding, given, csr, pushWrites, paddingWritesBy, paddingWrites}
+use Rattle.profile.specs.Rules.{wordOf, cost, above, pushSize, paddingBy, padding, given, csr, pushWrites, paddingWritesBy, paddingWrites}
 use Rattle.profile.specs.Lent.{Held, lsrrBy, csrBy}
 
 pub encode-given : (a v : ℕ) → encode (given a (Given v)) ≡ writeBytes (wrote a v)
@@ -92,3 +96,9 @@ padding-most (suc (suc (suc r))) = omega arith
 pub held-below : (a most : ℕ) (v : Value) → above most v ≡ false → most < 256 ^ widthOf a → Held a v
 held-below a most (Given v) e h = lt-of-le-of-lt (ltb-false most v e) h
 held-below a most Absent e h = tt
+
+pub word-held : (tuning : Tuning) → Held CFTW0 (wordOf tuning)
+unfolding widthOf
+word-held (Tune (pos n)) = omega arith
+word-held (Tune (negsuc n)) = omega arith
+word-held Keep = tt

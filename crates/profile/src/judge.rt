@@ -2,28 +2,17 @@
 ghost use mathlib.Core.Path.{_≡_};
 ghost use Prim.Native.Nat.{_+_, _*_, _≤_};
 ghost use Rattle.registers.specs.Registers.{CFTW0};
-ghost use Rattle.profile.specs.Rules.{bitsOf, wordOf, cost, above, padding, quarter};
+ghost use Rattle.profile.specs.Rules.{wordOf, cost, above, padding, quarter};
 ghost use Rattle.profile.specs.Lent.{Held, PushJudged, FinalizeJudged};
 use crate::Tuning;
 use crate::Value;
 use registers::answer;
 
-// A tuning word's bits, in two's complement.
-fn bits(z: i32) -> u32
-    ensures { λ r. ⌜ (r ≡ bitsOf z) × (r ≤ 4294967295) ⌝ }
-{
-    if z < 0 {
-        4294967295 - ((-1 - z) as u32)
-    } else {
-        z as u32
-    }
-}
-
 pub(crate) fn word(tuning: Tuning) -> Value
     ensures { λ r. ⌜ (r ≡ wordOf tuning) × Held CFTW0 r ⌝ }
 {
     match tuning {
-        Tuning::Tune(z) => Value::Given(bits(z)),
+        Tuning::Tune(z) => Value::Given(crate::bits(z)),
         Tuning::Keep => Value::Absent,
     }
 }

@@ -1,5 +1,6 @@
 // The profile serializer: register writes collected in 32 bytes, to be sent as words.
 ghost use mathlib.Core.Path.{_≡_};
+ghost use Rattle.profile.specs.Rules.{bitsOf};
 ghost use Rattle.profile.specs.Serializer.{newOf, pushOf, Finalizes, FeedsFrom};
 use registers::answer;
 
@@ -38,6 +39,17 @@ pub struct Finalized {
     pub number: u32,
     pub count: usize,
     pub serializer: ProfileSerializer,
+}
+
+// A tuning word's bits, in two's complement.
+pub fn bits(z: i32) -> u32
+    ensures { λ r. ⌜ r ≡ bitsOf z ⌝ }
+{
+    if z < 0 {
+        4294967295 - ((-1 - z) as u32)
+    } else {
+        z as u32
+    }
 }
 
 // A serializer for a mode.

@@ -12,7 +12,6 @@ use native.Mathlib.Nat.{suc-ne-zero}
 use native.Mathlib.Omega.{arith}
 use borrow.Author.Tests.{ltb-false, le-ltb, eqb-true, eqb-false}
 use lib.Dec.{eqb, ltb, lit<}
-use lib.IntN.{pos, negsuc}
 use lib.ListN.{length, take, drop, length-append, replicate}
 use lib.Seq.{take-at, length-take-le}
 use Rattle.registers.specs.Answers.{Ok}
@@ -27,14 +26,12 @@ use Rattle.image.specs.Image.{selected, select, apply}
 use Rattle.image.specs.Feed.{feedOf}
 use Rattle.image.proofs.Images.{length-apply, apply-append, selected-give, selected-select}
 use Rattle.profile.specs.declared.ProfileSerializer.{ProfileSerializer}
-use Rattle.profile.specs.declared.Tuning.{Tuning}
-use Rattle.profile.specs.declared.Tuning.the-variants.{Tune, Keep}
 use Rattle.profile.specs.declared.Value.{Value}
 use Rattle.profile.specs.declared.Value.the-variants.{Given, Absent}
 use Rattle.profile.specs.Rules.{wordOf, pushSize, quarter, full, above, pushNumber, finalizeNumber, given, pushWrites, paddingWritesBy, paddingWrites}
 use Rattle.profile.specs.Serializer.{newOf, pushOf, finalizedOf, grown, streamOf}
 use Rattle.profile.specs.Lent.{Held, held}
-use Rattle.profile.proofs.Sizes.{length-push, length-padding, padding-fits, held-below}
+use Rattle.profile.proofs.Sizes.{length-push, length-padding, padding-fits, held-below, word-held}
 use Rattle.script.specs.declared.Step.{Step}
 use Rattle.script.specs.declared.Step.the-variants.{Push, Finalize}
 use Rattle.script.specs.Meaning.{Told, gives, paddedBy, numberAt, sizeAt, effectAt, tell, tellAll, meaning}
@@ -63,12 +60,6 @@ good-append (w ∷ xs) ys g h = (g .0, g .1, good-append xs ys (g .2) h)
 good-given : (a : ℕ) (v : Value) → a < 25 → Held a v → Good (given a v)
 good-given a (Given v) h k = (h, k, tt)
 good-given a Absent h k = tt
-
-word-held : (tuning : Tuning) → Held CFTW0 (wordOf tuning)
-unfolding widthOf
-word-held (Tune (pos n)) = omega arith
-word-held (Tune (negsuc n)) = omega arith
-word-held Keep = tt
 
 apply-given : (mask a : ℕ) (v : Value) (image : List ℕ) → 3 ≤ a → selected image ≡ mask → apply (given a v) image ≡ gives mask a v image
 apply-given mask a (Given v) image h e = rw (le-ltb a 3 h, e)

@@ -26,10 +26,10 @@ known c = c .before .push .ensures .good (c .if1 .left)
 
 -- a push that is accepted, and one that is not
 module _ (mode at : ℕ) (bytes : List ℕ) (mask : ℕ) (tuning : Tuning) (phase acr : Value) {word : Value} (e : word ≡ wordOf tuning) where
-  accepted : {next : ℕ} {bytes′ : List ℕ} → pushNumber mode at mask word phase acr ≡ 0 → next ≡ at + pushSize word phase acr → bytes′ ≡ laid bytes at (encode (pushWrites mode mask word phase acr))
+  accepted : {next : ℕ} {bytes′ : List ℕ} → pushNumber mode at mask word phase acr ≡ 0 → bytes′ ≡ laid bytes at (encode (pushWrites mode mask word phase acr)) → next ≡ at + pushSize word phase acr
       → record { number = 0; serializer = held mode next bytes′ } ≡ pushOf (held mode at bytes) mask tuning phase acr
   unfolding pushOf
-  accepted z n b = rw (← e, z, n, b)
+  accepted z b n = rw (← e, z, n, b)
 
   refused : (k : ℕ) → k ≡ pushNumber mode at mask word phase acr → (k ≡ 0 → ⊥) → record { number = k; serializer = held mode at bytes } ≡ pushOf (held mode at bytes) mask tuning phase acr
   unfolding pushOf
@@ -51,7 +51,7 @@ returns-2 c =
     let w = d .before .before .before .word in
     let l = c .push2 .ensures in
     let n = length-push (a .mode) (a .mask) (w .result) (a .phase) (a .acr) in
-    record { pushes = accepted (a .mode) (now (a .length)) _ (a .mask) (a .tuning) (a .phase) (a .acr) (w .ensures .0) (sym (d .before .push .ensures .number) ∙ d .if1 .left) (l .place ∙ rw n) (l .after) }
+    record { pushes = accepted (a .mode) (now (a .length)) _ (a .mask) (a .tuning) (a .phase) (a .acr) (w .ensures .0) (sym (d .before .push .ensures .number) ∙ d .if1 .left) (l .after) (l .place ∙ rw n) }
 
 pub push-spec : {M : Type 1} → statement M
 push-spec = tie.close (tie.spec (λ c κs. search needs) (λ c κs. search needs) returns (λ c. omega (arith, known (c .before) )) (λ c. omega (arith, known (c .before) )) (λ c. omega (arith, known (c .before) )) push-requires-2 returns-2)

@@ -1,4 +1,4 @@
--- `profile::judge::bits` is two's complement. A negative z is -(n + 1), and -1 - z is n.
+-- `profile::bits` is two's complement. A negative z is -(n + 1), and -1 - z is n.
 use mathlib.Core.Path.{_≡_, sym, ap}
 use mathlib.Core.Bool.{true, false}
 use mathlib.Core.Bool
@@ -12,8 +12,8 @@ use mir.Val.{SFits, toZ, ofZ}
 use mir.ValLaws.{toZ-ofZ}
 use borrow.Author.Tests.{ltb-true, le-ltb}
 use Rattle.profile.specs.Rules.{bitsOf}
-use Rattle.profile.proofs.judge.bits.Statement.{statement}
-use Rattle.profile.proofs.judge.bits.Tie as tie
+use Rattle.profile.proofs.bits.Statement.{statement}
+use Rattle.profile.proofs.bits.Tie as tie
 
 flip : (n : ℕ) → negsuc 0 -ℤ negsuc n ≡ pos n
 flip n = rw (le-ltb (suc n) 1 (omega arith)) (ap pos (omega arith))
@@ -52,12 +52,12 @@ cast-result-2 c =
 returns : tie.Need-returns
 returns c =
     let d = below (c .before .args .z) _ (toZ-ofZ w32 (c .before .args .z) (c .before .fits .z)) (c .before .fits .z) (c .if1 .taken) in
-    rw (d .2, small (d .0) (d .3)) (sym (d .1), omega arith)
+    rw (d .2, small (d .0) (d .3)) (sym (d .1))
 
 returns-2 : tie.Need-returns-2
 returns-2 c =
     let d = upward (c .before .args .z) _ (toZ-ofZ w32 (c .before .args .z) (c .before .fits .z)) (c .before .fits .z) (c .if1 .left) in
-    rw (d .2) (sym (d .1), omega arith)
+    rw (d .2) (sym (d .1))
 
 pub bits-spec : {M : Type 1} → statement M
 bits-spec = tie.close (tie.spec sub-result cast-result sub-result-2 cast-result-2 returns returns-2)

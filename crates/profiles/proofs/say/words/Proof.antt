@@ -1,0 +1,14 @@
+-- `profiles::say::words` meets its contract. Assumes nothing.
+use Prim.Native.Nat.{_≤_, _-_}
+use borrow.Author.Needs.{needs}
+use Rattle.profiles.proofs.say.words.Statement.{statement}
+use Rattle.profiles.proofs.say.words.Tie as tie
+
+abbrev Inv-loop : tie.InvT-loop
+Inv-loop before s count i₀ t5 i = (i ≤ count)
+
+abbrev μ-loop : tie.MeasureT-loop
+μ-loop before s count i₀ t5 i = count - i
+
+pub words-spec : {M : Type 1} → statement M
+words-spec = tie.close (tie.spec Inv-loop μ-loop (λ c κs. search needs) (λ c. search needs) (λ c. search needs) (λ c. search needs) (λ c. search needs) (λ c. search needs) (λ c κs. search needs) (λ c. search needs) (λ c. search needs) (λ c. search needs) (λ c. search needs))
