@@ -11,7 +11,7 @@ use borrow.Author.Tests.{le-ltb, ne-eqb}
 use Rattle.profile.specs.Serializer.{newOf, FeedsFrom}
 use Rattle.script.specs.Runs.{run}
 use Rattle.script.specs.Play.{stepsOf, short, playNumber, Plays}
-use Rattle.script.proofs.Follows.{script, decodes, run-length}
+use Rattle.script.proofs.Runs.{fed}
 
 module _ (kinds masks presences : List ℕ) (words : List ℤ) (phases acrs : List ℕ) (mode n : ℕ) (image : List ℕ) where
   pub refused : (k : ℕ) → playNumber kinds masks presences words phases acrs mode n image ≡ k → (k ≡ 0 → ⊥) → Plays kinds masks presences words phases acrs mode n image k image
@@ -22,10 +22,4 @@ module _ (kinds masks presences : List ℕ) (words : List ℤ) (phases acrs : Li
     good = rw (le-ltb 3 mode h, full, le-ltb (length image) 91 l)
 
     pub played : {r : ℕ} {image′ : List ℕ} → FeedsFrom (run (newOf mode .serializer) (stepsOf kinds masks presences words phases acrs n)) image r image′ → Plays kinds masks presences words phases acrs mode n image r image′
-    played f =
-        let steps = stepsOf kinds masks presences words phases acrs n in
-        let e = le-ltb 32 (run (newOf mode .serializer) steps .length) (run-length mode steps h) in
-        record {
-          number = rw (e, le-ltb (length image) 91 l, decodes mode steps h) at (f .number) ∙ sym good;
-          after = rw e at (f .after) ∙ script mode steps image h l ∙ rw good;
-        }
+    played f = let e = fed mode (stepsOf kinds masks presences words phases acrs n) image h l f in record { number = e .0 ∙ sym good; after = e .1 ∙ rw good }
