@@ -1,3 +1,4 @@
 pub mod Sizes
 pub mod Puts
 pub mod Left
+pub mod Again

@@ -6,6 +6,7 @@
 --     laid-ahead    one list laid before another that is there
 --     laid-cons     the first stored, the others laid behind it
 --     laid-before, laid-behind   what stands before and behind stays
+--     laid-below    what stands up to its end
 --     length-laid   laying keeps the length
 --     sets-snoc     the last of a run of stores may go first
 use mathlib.Core.Path.{_≡_, refl, sym, ap, _∙_}
@@ -74,3 +75,7 @@ laid-before d at s h = rw append-assoc (take-at (take at d) (s ++ drop (at + len
 pub laid-behind : (d : List ℕ) (at : ℕ) (s : List ℕ) → at ≤ length d → drop (at + length s) (laid d at s) ≡ drop (at + length s) d
 unfolding laid
 laid-behind d at s h = drop-at (take at d ++ s) (drop (at + length s) d) (at + length s) (rw (length-append, length-take-le at d h))
+
+pub laid-below : (d : List ℕ) (at : ℕ) (s : List ℕ) → at ≤ length d → take (at + length s) (laid d at s) ≡ take at d ++ s
+unfolding laid
+laid-below d at s h = take-at (take at d ++ s) (drop (at + length s) d) (at + length s) (rw (length-append, length-take-le at d h))

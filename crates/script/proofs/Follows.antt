@@ -12,12 +12,11 @@ use native.Mathlib.Nat.{suc-ne-zero}
 use native.Mathlib.Omega.{arith}
 use borrow.Author.Tests.{ltb-false, le-ltb, eqb-true, eqb-false}
 use lib.Dec.{eqb, ltb, lit<}
-use lib.ListN.{length, take, drop, length-append, replicate}
-use lib.Seq.{take-at, length-take-le}
+use lib.ListN.{length, take, replicate}
 use Rattle.registers.specs.Answers.{Ok}
 use Rattle.registers.specs.Registers.{Write, widthOf, CFTW0, CPOW0, ACR}
 use Rattle.registers.specs.Bytes.{laid}
-use Rattle.registers.proofs.Laid.{length-laid}
+use Rattle.registers.proofs.Laid.{length-laid, laid-below}
 use Rattle.stream.specs.Streams.{encode, Good}
 use Rattle.stream.specs.Decoder.{decodeOf}
 use Rattle.stream.proofs.Streams.{encode-append}
@@ -68,11 +67,6 @@ apply-given mask a Absent image h e = refl
 selected-gives : (mask a : ℕ) (v : Value) (image : List ℕ) → 3 ≤ a → selected image ≡ mask → selected (gives mask a v image) ≡ mask
 selected-gives mask a (Given v) image h e = selected-give mask a v image h ∙ e
 selected-gives mask a Absent image h e = e
-
--- what stands below the end of bytes that were laid
-laid-below : (d : List ℕ) (n : ℕ) (s : List ℕ) → n + length s ≤ length d → take (n + length s) (laid d n s) ≡ take n d ++ s
-unfolding laid
-laid-below d n s h = take-at (take n d ++ s) (drop (n + length s) d) (n + length s) (rw (length-append, length-take-le n d (omega arith)))
 
 -- ---- one step
 
@@ -167,7 +161,7 @@ module _ (mode : ℕ) (legal : mode ≤ 3) where
         record {
           ws = r .ws ++ ws;
           good = good-append (r .ws) ws (r .good) (ok .0);
-          stream = rw (← size) (laid-below bs n (encode ws) h ∙ rw (r .stream, encode-append));
+          stream = rw (← size) (laid-below bs n (encode ws) (omega arith) ∙ rw (r .stream, encode-append));
           room = length-laid bs n (encode ws) h ∙ r .room;
           short = ok .1;
           told = apply-append (r .ws) ws image₀ ∙ rw (r .told) (effective n step (x .image) (omega (arith, length-apply (r .ws) image₀, ap length (r .told))));

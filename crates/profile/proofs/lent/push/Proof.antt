@@ -54,4 +54,4 @@ returns-2 c =
     record { pushes = accepted (a .mode) (now (a .length)) _ (a .mask) (a .tuning) (a .phase) (a .acr) (w .ensures .0) (sym (d .before .push .ensures .number) ∙ d .if1 .left) (l .after) (l .place ∙ rw n) }
 
 pub push-spec : {M : Type 1} → statement M
-push-spec = tie.close (tie.spec (λ c κs. search needs) (λ c κs. search needs) returns (λ c. omega (arith, known (c .before) )) (λ c. omega (arith, known (c .before) )) (λ c. omega (arith, known (c .before) )) push-requires-2 returns-2)
+push-spec = tie.close (tie.spec (λ c κs. search needs) (λ c κs. search needs) returns (λ c. omega (arith, known (c .before))) (λ c. omega (arith, known (c .before))) (λ c. omega (arith, known (c .before))) push-requires-2 returns-2)
