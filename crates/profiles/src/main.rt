@@ -1,6 +1,7 @@
 // Profiles: the serializer's steps, streams, words and what an image shows, with document 01's example in the title where it is one of its.
 mod examples;
 mod longer;
+mod played;
 mod refusals;
 mod register;
 mod same;
@@ -13,4 +14,5 @@ fn main() {
     longer::all();
     refusals::all();
     streams::all();
+    played::all();
 }

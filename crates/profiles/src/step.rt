@@ -138,7 +138,7 @@ pub fn finalize(s: ProfileSerializer, room: usize) -> ProfileSerializer {
 }
 
 // What an image holds after it was fed.
-fn fed(number: u32, image: &[u32; 93]) {
+pub fn fed(number: u32, image: &[u32; 93]) {
     say::answer(number);
     if number != answer::OK {
         say::pick(same::marked(image, 0), b", kept", b", CHANGED");
