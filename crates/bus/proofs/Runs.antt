@@ -3,10 +3,11 @@
 --     hands-nothing   and it hands out nothing, whatever is replied
 --     in-order        what a run hands out is the beginning of the table, from the step where it starts
 --     whole           with good replies to the end of the table, it is all of that
+--     goes-cons       a good reply that moves it on, before others that do
 --     fault-ends      a reply with a fault ends the sequence
 --     failed-fault    a failed reply is one, but to a delay
 --     nothing-after   nothing is handed out after a reply that ends it
-use mathlib.Core.Path.{_≡_, refl, sym, ap, _∙_}
+use mathlib.Core.Path.{_≡_, refl, sym, ap, subst, _∙_}
 use mathlib.Core.Logic.{_⊎_, inl, inr, ⊎-elim}
 use mathlib.Core.Bool.{Bool, true, false, cond}
 use mathlib.Core.List.{List, [], _∷_, _++_, append-nil}
@@ -27,7 +28,7 @@ use Rattle.bus.specs.Sequence.{shown, Some, values, Sequence, after, act
 
 -- ---- actions
 
-shows : (a : Action) → (a ≡ Nothing) ⊎ Some a
+pub shows : (a : Action) → (a ≡ Nothing) ⊎ Some a
 shows Nothing = inl refl
 shows (Pin p h) = inr refl
 shows (Delay n) = inr refl
@@ -35,10 +36,10 @@ shows (Configure m) = inr refl
 shows (Write a v) = inr refl
 shows (Read a) = inr refl
 
-not-nothing : {a : Action} → Some a → a ≡ Nothing → ⊥
+pub not-nothing : {a : Action} → Some a → a ≡ Nothing → ⊥
 not-nothing {a} sh e = let z : _≡_ {A = List Action} [] (Nothing ∷ []) = sym (ap shown e) ∙ sh ∙ ap (λ (b : Action). b ∷ []) e in let n : _≡_ {A = ℕ} 0 1 = cc in omega arith
 
-by : {A : Type 0} (P : A → Type 0) (t : Bool) {x y : A} → (t ≡ true → P x) → (t ≡ false → P y) → P (cond t x y)
+pub by : {A : Type 0} (P : A → Type 0) (t : Bool) {x y : A} → (t ≡ true → P x) → (t ≡ false → P y) → P (cond t x y)
 by P true f g = f refl
 by P false f g = g refl
 
@@ -46,7 +47,7 @@ abbrev Below : ℕ → Type 0
 Below n = n < Over
 
 -- a number below Over, wherever there is an action
-some-below : (a : Action) (r : Reply) → Some a → Below (faultOf a r)
+pub some-below : (a : Action) (r : Reply) → Some a → Below (faultOf a r)
 some-below Nothing r sh = absurd (not-nothing sh refl)
 some-below (Pin p h) r sh = by Below (r .failed) (λ e. omega arith) (λ e. omega arith)
 some-below (Delay n) r sh = omega arith
@@ -110,6 +111,9 @@ module _ {S : Type 0} (q : Sequence S) (at : S → ℕ) (table : S → List ℕ 
   goes-on : (s : S) (r : Reply) → faultOf (q .action s) r ≡ Ok → q .stops s (r .value) ≡ false → after q s r ≡ q .onward s (r .value)
   unfolding after
   goes-on s r e t = rw (e, t)
+
+  pub goes-cons : (s : S) (r : Reply) (rs : List Reply) → faultOf (q .action s) r ≡ Ok → q .stops s (r .value) ≡ false → Goes q (q .onward s (r .value)) rs → Goes q s (r ∷ rs)
+  goes-cons s r rs e t g = (e, t, subst (λ (x : S). Goes q x rs) (sym (goes-on s r e t)) g)
 
   pub whole : (s : S) (rs : List Reply) → Goes q s rs → at s + length rs ≡ length (table s (values rs)) → acts q s rs ≡ drop (at s) (table s (values rs))
   whole s [] g h = hands-nothing s [] (past s [] (omega arith)) ∙ sym (drop-of-length-le (table s []) {i = at s} (omega arith))

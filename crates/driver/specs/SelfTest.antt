@@ -1,0 +1,46 @@
+-- Document 01, the self test. Definitions only.
+use Prim.Native.Nat.{ℕ, _+_, _/_, _%_}
+use mathlib.Core.Bool.{Bool, false, _&&_, not, cond}
+use mathlib.Core.List.{List, [], _∷_}
+use lib.Dec.{ltb, eqb}
+use lib.ListN.{getD}
+use Rattle.registers.specs.Answers.{Ok}
+use Rattle.registers.specs.Registers.{CSR}
+use Rattle.bus.specs.declared.Action.{Action}
+use Rattle.bus.specs.declared.Action.the-variants.{Nothing, Write, Read}
+use Rattle.bus.specs.declared.Reply.{Reply}
+use Rattle.bus.specs.Bus.{faultOf}
+use Rattle.bus.specs.Sequence.{Sequence, after}
+use Rattle.driver.specs.declared.self_test.SelfTest.{SelfTest}
+use Rattle.driver.specs.declared.self_test.Tested.{Tested}
+
+-- read CSR; write it with channels 15; read; write it with channels 0; read; write the old byte
+abbrev pub table : ℕ → List Action
+table old = Read CSR ∷ Write CSR (old % 16 + 240) ∷ Read CSR ∷ Write CSR (old % 16) ∷ Read CSR ∷ Write CSR old ∷ []
+
+-- a step that isn't its own, or an old byte out of range, counts as ended
+unfoldable pub actionOf : SelfTest → Action
+actionOf s = cond (ltb 255 (s .old)) Nothing (getD (table (s .old)) (s .step) Nothing)
+
+-- a read whose channel bits differ
+abbrev pub differs : ℕ → ℕ → Bool
+differs step v = cond (eqb step 2) (not (eqb (v / 16) 15)) (cond (eqb step 4) (not (eqb (v / 16) 0)) false)
+
+-- the old byte is the first that is read
+abbrev pub keptOf : ℕ → ℕ → ℕ → ℕ
+keptOf step v old = cond (eqb step 0) v old
+
+abbrev pub onward : SelfTest → ℕ → SelfTest
+onward s v = record { step = s .step + 1; old = keptOf (s .step) v (s .old) }
+
+abbrev pub ended : SelfTest → SelfTest
+ended s = record { step = 6; old = s .old }
+
+abbrev pub sequence : Sequence SelfTest
+sequence = record { action = actionOf; stops = λ s v. differs (s .step) v; onward = onward; ended = ended }
+
+-- passed with the good reply to the restoring write; a differing read ends it with Ok and false
+unfoldable pub replyOf : SelfTest → Reply → Tested
+replyOf s r =
+    let fault = faultOf (actionOf s) r in
+    record { number = fault; passed = eqb fault Ok && (not (differs (s .step) (r .value)) && eqb (s .step) 5); sequence = after sequence s r }

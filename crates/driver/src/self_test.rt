@@ -1,0 +1,118 @@
+// The self test: CSR's channel bits set and cleared, read each time, and the old byte written back.
+ghost use mathlib.Core.Path.{_≡_};
+ghost use mathlib.Core.Bool.{false};
+ghost use Rattle.driver.specs.SelfTest.{actionOf, differs, keptOf, replyOf};
+use bus::Action;
+use bus::Reply;
+use registers::address;
+use registers::answer;
+
+// The step, and the byte that was read first.
+pub struct SelfTest {
+    pub step: u32,
+    pub old: u32,
+}
+
+// A number, whether the test has passed, and the sequence.
+pub struct Tested {
+    pub number: u32,
+    pub passed: bool,
+    pub sequence: SelfTest,
+}
+
+pub fn new() -> SelfTest
+    ensures { λ r. ⌜ r ≡ record { step = 0; old = 0 } ⌝ }
+{
+    SelfTest { step: 0, old: 0 }
+}
+
+pub fn action(sequence: SelfTest) -> Action
+    ensures { λ r. ⌜ r ≡ actionOf sequence ⌝ }
+{
+    let step = sequence.step as usize;
+    let old = sequence.old;
+    if 255 < old {
+        return Action::Nothing;
+    }
+    if 5 < step {
+        return Action::Nothing;
+    }
+    let plan = [
+        Action::Read(address::CSR),
+        Action::Write {
+            address: address::CSR,
+            value: old % 16 + 240,
+        },
+        Action::Read(address::CSR),
+        Action::Write {
+            address: address::CSR,
+            value: old % 16,
+        },
+        Action::Read(address::CSR),
+        Action::Write {
+            address: address::CSR,
+            value: old,
+        },
+    ];
+    plan[step]
+}
+
+// Whether the channel bits that were read are not those that were written.
+fn differs(step: u32, value: u32) -> bool
+    ensures { λ r. ⌜ r ≡ differs step value ⌝ }
+{
+    if step == 2 {
+        return value / 16 != 15;
+    }
+    if step == 4 {
+        return value / 16 != 0;
+    }
+    false
+}
+
+fn kept(step: u32, value: u32, old: u32) -> u32
+    ensures { λ r. ⌜ r ≡ keptOf step value old ⌝ }
+{
+    if step == 0 { value } else { old }
+}
+
+fn ended(number: u32, old: u32) -> Tested
+    ensures { λ r. ⌜ r ≡ record { number = number; passed = false; sequence = record { step = 6; old = old } } ⌝ }
+{
+    Tested {
+        number,
+        passed: false,
+        sequence: SelfTest { step: 6, old },
+    }
+}
+
+pub fn reply(sequence: SelfTest, reply: Reply) -> Tested
+    ensures { λ r. ⌜ r ≡ replyOf sequence reply ⌝ }
+{
+    let step = sequence.step;
+    let old = sequence.old;
+    let value = reply.value;
+    let number = bus::fault(action(sequence), reply);
+    if number == answer::OVER {
+        return Tested {
+            number,
+            passed: false,
+            sequence,
+        };
+    }
+    if number != answer::OK {
+        return ended(number, old);
+    }
+    if differs(step, value) {
+        return ended(number, old);
+    }
+    let first = kept(step, value, old);
+    Tested {
+        number,
+        passed: step == 5,
+        sequence: SelfTest {
+            step: step + 1,
+            old: first,
+        },
+    }
+}
