@@ -3,13 +3,14 @@
 --     hands-nothing   and it hands out nothing, whatever is replied
 --     in-order        what a run hands out is the beginning of the table, from the step where it starts
 --     whole           with good replies to the end of the table, it is all of that
+--     goes-on         a good reply at which it does not stop moves it on
 --     goes-cons       a good reply that moves it on, before others that do
 --     fault-ends      a reply with a fault ends the sequence
 --     failed-fault    a failed reply is one, but to a delay
 --     nothing-after   nothing is handed out after a reply that ends it
 use mathlib.Core.Path.{_≡_, refl, sym, ap, subst, _∙_}
 use mathlib.Core.Logic.{_⊎_, inl, inr, ⊎-elim}
-use mathlib.Core.Bool.{Bool, true, false, cond}
+use mathlib.Core.Bool.{true, false}
 use mathlib.Core.List.{List, [], _∷_, _++_, append-nil}
 use Prim.Native.Nat.{ℕ, suc, _+_, _<_, _≤_}
 use native.Mathlib.Numerals.{add-one}
@@ -18,6 +19,7 @@ use borrow.Author.Tests.{eqb-true}
 use lib.Dec.{eqb}
 use lib.ListN.{length, drop, drop-of-length-le}
 use lib.Seq.{drop-cons}
+use Rattle.registers.proofs.Choice.{by}
 use Rattle.registers.specs.Answers.{Ok, Over}
 use Rattle.bus.specs.declared.Action.{Action}
 use Rattle.bus.specs.declared.Action.the-variants.{Nothing, Pin, Delay, Configure, Write, Read}
@@ -38,10 +40,6 @@ shows (Read a) = inr refl
 
 pub not-nothing : {a : Action} → Some a → a ≡ Nothing → ⊥
 not-nothing {a} sh e = let z : _≡_ {A = List Action} [] (Nothing ∷ []) = sym (ap shown e) ∙ sh ∙ ap (λ (b : Action). b ∷ []) e in let n : _≡_ {A = ℕ} 0 1 = cc in omega arith
-
-pub by : {A : Type 0} (P : A → Type 0) (t : Bool) {x y : A} → (t ≡ true → P x) → (t ≡ false → P y) → P (cond t x y)
-by P true f g = f refl
-by P false f g = g refl
 
 abbrev Below : ℕ → Type 0
 Below n = n < Over
@@ -108,7 +106,7 @@ module _ {S : Type 0} (q : Sequence S) (at : S → ℕ) (table : S → List ℕ 
   good-some : (s : S) (r : Reply) → faultOf (q .action s) r ≡ Ok → Some (q .action s)
   good-some s r e = ⊎-elim (λ (z : q .action s ≡ Nothing). absurd (omega (arith, e, over-stays s r z .0))) (λ (sh : Some (q .action s)). sh) (shows (q .action s))
 
-  goes-on : (s : S) (r : Reply) → faultOf (q .action s) r ≡ Ok → q .stops s (r .value) ≡ false → after q s r ≡ q .onward s (r .value)
+  pub goes-on : (s : S) (r : Reply) → faultOf (q .action s) r ≡ Ok → q .stops s (r .value) ≡ false → after q s r ≡ q .onward s (r .value)
   unfolding after
   goes-on s r e t = rw (e, t)
 

@@ -11,16 +11,17 @@ use native.Mathlib.Omega.{arith}
 use borrow.Author.Tests.{ltb-true, ltb-false, ne-eqb, lt-ltb, le-ltb}
 use lib.Dec.{ltb, eqb, eqb·suc-zero}
 use lib.ListN.{getD, List·getD-eq-default}
+use Rattle.registers.proofs.Choice.{by}
 use Rattle.registers.specs.Answers.{Ok}
 use Rattle.registers.specs.Registers.{CSR, widthOf}
 use Rattle.bus.specs.declared.Action.{Action}
 use Rattle.bus.specs.declared.Action.the-variants.{Nothing, Pin, Delay, Configure, Write, Read}
 use Rattle.bus.specs.declared.Reply.{Reply}
 use Rattle.bus.specs.Bus.{faultOf}
-use Rattle.bus.specs.Sequence.{Some, values, acts, reached, Follows}
-use Rattle.bus.proofs.Runs.{shows, not-nothing, by, in-order, goes-cons, whole, fault-ends, failed-fault, nothing-after}
+use Rattle.bus.specs.Sequence.{Some, values, acts, after, reached, Goes, Follows}
+use Rattle.bus.proofs.Runs.{shows, not-nothing, in-order, goes-on, goes-cons, whole, fault-ends, failed-fault, nothing-after}
 use Rattle.driver.specs.declared.self_test.SelfTest.{SelfTest}
-use Rattle.driver.specs.SelfTest.{table, actionOf, sequence, replyOf}
+use Rattle.driver.specs.SelfTest.{table, start, actionOf, sequence, replyOf}
 
 pub past : (s : SelfTest) → 6 ≤ s .step → actionOf s ≡ Nothing
 unfolding actionOf
@@ -52,9 +53,6 @@ follows = record {
   moves = λ s v vs sh e. (refl, rw (ne-eqb (s .step + 1) 0 (λ z. omega arith)));
   over = λ s. past (record { step = 6; old = s .old }) (omega arith);
 }
-
-abbrev start : SelfTest
-start = record { step = 0; old = 0 }
 
 pub self-test-in-order : (rs : List Reply) → (l : List Action) × (acts sequence start rs ++ l ≡ table (getD (values rs) 0 0))
 self-test-in-order rs = in-order sequence (λ s. s .step) tableOf follows start rs
@@ -105,24 +103,37 @@ unfolding widthOf
 read-well v h = rw (lt-ltb v 256 h)
 
 module _ (b v w x y z : ℕ) (h : b < 256) (k : v < 256) (l : x < 16) (f : v / 16 ≡ 15) where
-  pub self-test-passes : (acts sequence start (good b ∷ good w ∷ good v ∷ good y ∷ good x ∷ good z ∷ []) ≡ table b) × (replyOf (at-step 5 b) (good z) .passed ≡ true)
-  unfolding replyOf
-  self-test-passes =
+  answers : (k v : ℕ) → faultOf (getD (table b) k Nothing) (good v) ≡ Ok → faultOf (actionOf (at-step k b)) (good v) ≡ Ok
+  answers k v = answer-at k b v h
+
+  none : x / 16 ≡ 0
+  none = omega arith
+
+  abbrev first-five : List Reply
+  first-five = good b ∷ good w ∷ good v ∷ good y ∷ good x ∷ []
+
+  goes : Goes sequence start (first-five ++ good z ∷ [])
+  goes =
       let on = goes-cons sequence (λ s. s .step) tableOf follows in
-      let none : x / 16 ≡ 0 = omega arith in
-      let at : (k v : ℕ) → faultOf (getD (table b) k Nothing) (good v) ≡ Ok → faultOf (actionOf (at-step k b)) (good v) ≡ Ok = λ k v. answer-at k b v h in
-      let r₅ : List Reply = good z ∷ [] in
-      let r₄ = good x ∷ r₅ in
-      let r₃ = good y ∷ r₄ in
-      let r₂ = good v ∷ r₃ in
-      let r₁ = good w ∷ r₂ in (
-        whole sequence (λ s. s .step) tableOf follows start (good b ∷ r₁)
-            (on start (good b) r₁ (answer-at 0 0 b (omega arith) (read-well b h)) refl
-            (on (at-step 1 b) (good w) r₂ (at 1 w refl) refl
-            (on (at-step 2 b) (good v) r₃ (at 2 v (read-well v k)) (rw f)
-            (on (at-step 3 b) (good y) r₄ (at 3 y refl) refl
-            (on (at-step 4 b) (good x) r₅ (at 4 x (read-well x (omega arith))) (rw none)
-            (on (at-step 5 b) (good z) [] (at 5 z refl) refl tt))))))
-            refl,
-        rw (at 5 z refl),
-      )
+      on start (good b) (good w ∷ good v ∷ good y ∷ good x ∷ good z ∷ []) (answer-at 0 0 b (omega arith) (read-well b h)) refl
+      (on (at-step 1 b) (good w) (good v ∷ good y ∷ good x ∷ good z ∷ []) (answers 1 w refl) refl
+      (on (at-step 2 b) (good v) (good y ∷ good x ∷ good z ∷ []) (answers 2 v (read-well v k)) (rw f)
+      (on (at-step 3 b) (good y) (good x ∷ good z ∷ []) (answers 3 y refl) refl
+      (on (at-step 4 b) (good x) (good z ∷ []) (answers 4 x (read-well x (omega arith))) (rw none)
+      (on (at-step 5 b) (good z) [] (answers 5 z refl) refl tt)))))
+
+  -- a good reply moves it on
+  on-to : (s : SelfTest) (v : ℕ) → faultOf (actionOf s) (good v) ≡ Ok → sequence .stops s v ≡ false → after sequence s (good v) ≡ sequence .onward s v
+  on-to s v = goes-on sequence (λ s. s .step) tableOf follows s (good v)
+
+  reaches-last : reached sequence start first-five ≡ at-step 5 b
+  reaches-last =
+      rw (on-to start b (answer-at 0 0 b (omega arith) (read-well b h)) refl)
+      (rw (on-to (at-step 1 b) w (answers 1 w refl) refl)
+      (rw (on-to (at-step 2 b) v (answers 2 v (read-well v k)) (rw f))
+      (rw (on-to (at-step 3 b) y (answers 3 y refl) refl)
+      (on-to (at-step 4 b) x (answers 4 x (read-well x (omega arith))) (rw none)))))
+
+  pub self-test-passes : (acts sequence start (first-five ++ good z ∷ []) ≡ table b) × (replyOf (reached sequence start first-five) (good z) .passed ≡ true)
+  unfolding replyOf
+  self-test-passes = (whole sequence (λ s. s .step) tableOf follows start (first-five ++ good z ∷ []) goes refl, rw (reaches-last, answers 5 z refl))

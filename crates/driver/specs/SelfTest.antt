@@ -18,6 +18,9 @@ use Rattle.driver.specs.declared.self_test.Tested.{Tested}
 abbrev pub table : ℕ → List Action
 table old = Read CSR ∷ Write CSR (old % 16 + 240) ∷ Read CSR ∷ Write CSR (old % 16) ∷ Read CSR ∷ Write CSR old ∷ []
 
+abbrev pub start : SelfTest
+start = record { step = 0; old = 0 }
+
 -- a step that isn't its own, or an old byte out of range, counts as ended
 unfoldable pub actionOf : SelfTest → Action
 actionOf s = cond (ltb 255 (s .old)) Nothing (getD (table (s .old)) (s .step) Nothing)

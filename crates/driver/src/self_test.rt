@@ -1,7 +1,7 @@
 // The self test: CSR's channel bits set and cleared, read each time, and the old byte written back.
 ghost use mathlib.Core.Path.{_≡_};
 ghost use mathlib.Core.Bool.{false};
-ghost use Rattle.driver.specs.SelfTest.{actionOf, differs, keptOf, replyOf};
+ghost use Rattle.driver.specs.SelfTest.{start, actionOf, differs, keptOf, replyOf};
 use bus::Action;
 use bus::Reply;
 use registers::address;
@@ -21,7 +21,7 @@ pub struct Tested {
 }
 
 pub fn new() -> SelfTest
-    ensures { λ r. ⌜ r ≡ record { step = 0; old = 0 } ⌝ }
+    ensures { λ r. ⌜ r ≡ start ⌝ }
 {
     SelfTest { step: 0, old: 0 }
 }

@@ -5,7 +5,7 @@
 --     misses                                    a word that no channel's register stands at is reached by no mask
 --     selected-give                             a register from 0x03 up leaves the selection
 --     selected-select                           CSR set to a mask selects it
---     past-stays, past-apply                    words from 91 on stay
+--     past-stays                                feeding leaves the words from 91 on, whatever the stream
 use mathlib.Core.Path.{_≡_, refl, _∙_, subst}
 use mathlib.Core.Logic.{_≢_}
 use mathlib.Core.Bool.{Bool, true, false, cond, not, _&&_, _||_}
@@ -14,16 +14,18 @@ use Prim.Native.Nat.{ℕ, zero, suc, _+_, _*_, _≤_, _<_}
 use native.Mathlib.Omega.{arith}
 use borrow.Author.Tests.{ne-eqb}
 use lib.Dec.{T, eqb, ltb, T-not, eqb-refl}
-use lib.ListN.{length, getD, set, length-set}
+use lib.ListN.{length, getD, set, drop, length-set}
 use lib.Seq.{getD-set-other, getD-set-same}
-use Rattle.registers.specs.Registers.{Write}
+use Rattle.registers.proofs.Choice.{by}
+use Rattle.registers.specs.Registers.{Write, wrote}
 use Rattle.registers.specs.Csr.{byteOf}
-use Rattle.stream.specs.Streams.{Good}
+use Rattle.registers.specs.Answers.{Ok}
+use Rattle.stream.specs.declared.Step.{Step}
+use Rattle.stream.specs.declared.Step.the-variants.{One, Fault, End}
+use Rattle.stream.specs.Decoder.{Decoded, stepOf, onStep, decodeFrom, decodeOf}
+use Rattle.stream.proofs.Steps.{one-address}
+use Rattle.image.specs.Feed.{feedNumber, feedOf}
 use Rattle.image.specs.Image.{selects, reaches, giveTo, give, selected, select, write, apply}
-
-either : (P : List ℕ → Type 0) (b : Bool) {x y : List ℕ} → P x → P y → P (cond b x y)
-either P true p q = p
-either P false p q = q
 
 -- ---- lengths
 
@@ -34,13 +36,13 @@ length-giveTo : (n mask a v : ℕ) (image : List ℕ) → Long image (giveTo n m
 length-giveTo zero mask a v image = refl
 length-giveTo (suc i) mask a v image =
     let h = length-giveTo i mask a v image in
-    either (Long image) (selects mask i) (length-set (giveTo i mask a v image) (22 * i + a) v ∙ h) h
+    by (Long image) (selects mask i) (λ _. length-set (giveTo i mask a v image) (22 * i + a) v ∙ h) (λ _. h)
 
 pub length-give : (mask a v : ℕ) (image : List ℕ) → length (give mask a v image) ≡ length image
 length-give mask a v image = length-giveTo 4 mask a v image
 
 pub length-write : (w : Write) (image : List ℕ) → length (write w image) ≡ length image
-length-write w image = either (Long image) (ltb (w .address) 3) (length-set image (w .address) (w .value)) (length-give (selected image) (w .address) (w .value) image)
+length-write w image = by (Long image) (ltb (w .address) 3) (λ _. length-set image (w .address) (w .value)) (λ _. length-give (selected image) (w .address) (w .value) image)
 
 pub length-apply : (ws : List Write) (image : List ℕ) → length (apply ws image) ≡ length image
 length-apply [] image = refl
@@ -86,11 +88,39 @@ selected-give mask a v image h = rw (give-stays 4 mask a v image 0 (misses 4 mas
 pub selected-select : (mode mask : ℕ) (image : List ℕ) → 0 < length image → mode ≤ 3 → selected (select mode mask image) ≡ mask
 selected-select mode mask image h k = rw (getD-set-same image 0 (byteOf mode mask) 0 h) (omega arith)
 
-pub past-stays : (w : Write) (image : List ℕ) (j : ℕ) → w .address < 25 → 91 ≤ j → getD (write w image) j 0 ≡ getD image j 0
-past-stays w image j h k =
-    either (λ (l : List ℕ). getD l j 0 ≡ getD image j 0) (ltb (w .address) 3) (getD-set-other image (w .address) j (w .value) 0 (λ e. omega arith))
-    (give-stays 4 (selected image) (w .address) (w .value) image j (misses 4 (selected image) (w .address) j (λ i l e. omega arith)))
+past-write : (w : Write) (image : List ℕ) (j : ℕ) → w .address < 25 → 91 ≤ j → getD (write w image) j 0 ≡ getD image j 0
+past-write w image j h k =
+    by (λ (l : List ℕ). getD l j 0 ≡ getD image j 0) (ltb (w .address) 3) (λ _. getD-set-other image (w .address) j (w .value) 0 (λ e. omega arith))
+    (λ _. give-stays 4 (selected image) (w .address) (w .value) image j (misses 4 (selected image) (w .address) j (λ i l e. omega arith)))
 
-pub past-apply : (ws : List Write) (image : List ℕ) (j : ℕ) → Good ws → 91 ≤ j → getD (apply ws image) j 0 ≡ getD image j 0
+abbrev Addressed : List Write → Type 0
+Addressed [] = Unit {0}
+Addressed (w ∷ ws) = (w .address < 25) × Addressed ws
+
+past-apply : (ws : List Write) (image : List ℕ) (j : ℕ) → Addressed ws → 91 ≤ j → getD (apply ws image) j 0 ≡ getD image j 0
 past-apply [] image j g k = refl
-past-apply (w ∷ ws) image j g k = past-apply ws (write w image) j (g .2) k ∙ past-stays w image j (g .0) k
+past-apply (w ∷ ws) image j g k = past-apply ws (write w image) j (g .1) k ∙ past-write w image j (g .0) k
+
+addressed-snoc : (ws : List Write) (w : Write) → Addressed ws → w .address < 25 → Addressed (ws ++ w ∷ [])
+addressed-snoc [] w g h = (h, tt)
+addressed-snoc (x ∷ ws) w g h = (g .0, addressed-snoc ws w (g .1) h)
+
+-- what a stream decodes to are writes of registers
+by-step : (go : List Write → List ℕ → Decoded) (ws : List Write) (bs : List ℕ) (x : Step) → ((us : List Write) (cs : List ℕ) → Addressed us → Addressed (go us cs .writes))
+    → x ≡ stepOf bs → Addressed ws → Addressed (onStep go ws bs x .writes)
+by-step go ws bs End ih e g = g
+by-step go ws bs (Fault k) ih e g = g
+by-step go ws bs (One a v w) ih e g = ih (ws ++ wrote a v ∷ []) (drop (suc w) bs) (addressed-snoc ws (wrote a v) g (one-address bs a v w e))
+
+decoded-from : (n : ℕ) (ws : List Write) (bs : List ℕ) → Addressed ws → Addressed (decodeFrom n ws bs .writes)
+unfolding decodeFrom
+decoded-from zero ws bs g = g
+decoded-from (suc n) ws bs g = by-step (decodeFrom n) ws bs (stepOf bs) (decoded-from n) refl g
+
+decoded : (bs : List ℕ) → Addressed (decodeOf bs .writes)
+unfolding decodeOf
+decoded bs = decoded-from (suc (length bs)) [] bs tt
+
+pub past-stays : (bytes image : List ℕ) (j : ℕ) → 91 ≤ j → getD (feedOf bytes image) j 0 ≡ getD image j 0
+past-stays bytes image j k =
+    by (λ (l : List ℕ). getD l j 0 ≡ getD image j 0) (eqb (feedNumber bytes image) Ok) (λ _. past-apply (decodeOf bytes .writes) image j (decoded bytes) k) (λ _. refl)

@@ -2,13 +2,13 @@
 --     puts-then    one run behind another
 --     puts-ahead   one run before another that is there
 --     puts-none    nothing laid
-use mathlib.Core.Path.{_≡_, sym, ap, _∙_}
+use mathlib.Core.Path.{_≡_, sym, _∙_}
 use mathlib.Core.List.{List, [], _++_}
 use Prim.Native.Nat.{ℕ, _+_, _≤_}
 use native.Mathlib.Omega.{arith}
 use lib.ListN.{length, length-append}
 use Rattle.registers.specs.Bytes.{laid}
-use Rattle.registers.proofs.Laid.{laid-laid, laid-ahead, laid-nil, length-laid}
+use Rattle.registers.proofs.Laid.{laid-laid, laid-ahead, laid-nil}
 use Rattle.profile.specs.Lent.{Puts}
 
 pub puts-then : {d e e′ s t : List ℕ} {at r r′ : ℕ} → Puts d at s r e → Puts e r t r′ e′ → at + length s + length t ≤ length d → Puts d at (s ++ t) r′ e′
@@ -25,6 +25,3 @@ puts-ahead s {d} {e} {e′} {t} {at} {b} {r} k p q h = record {
 
 pub puts-none : (d : List ℕ) (at : ℕ) → Puts d at [] at d
 puts-none d at = record { place = omega arith; after = sym (laid-nil d at) }
-
-pub puts-length : {d e s : List ℕ} {at r : ℕ} → Puts d at s r e → at + length s ≤ length d → length e ≡ length d
-puts-length {d} {e} {s} {at} p h = ap length (p .after) ∙ length-laid d at s h

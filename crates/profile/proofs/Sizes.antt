@@ -87,12 +87,6 @@ quarters-by n (suc (suc (suc (suc r)))) l e = omega arith
 pub padded-quarters : (n : ℕ) → (n + padding n) / 4 * 4 ≡ n + padding n
 padded-quarters n = quarters-by n (n % 4) (omega arith) refl
 
-pub padding-most : (r : ℕ) → paddingBy r ≤ 5
-padding-most zero = omega arith
-padding-most (suc zero) = omega arith
-padding-most (suc (suc zero)) = omega arith
-padding-most (suc (suc (suc r))) = omega arith
-
 pub held-below : (a most : ℕ) (v : Value) → above most v ≡ false → most < 256 ^ widthOf a → Held a v
 held-below a most (Given v) e h = lt-of-le-of-lt (ltb-false most v e) h
 held-below a most Absent e h = tt

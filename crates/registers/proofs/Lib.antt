@@ -4,3 +4,4 @@ pub mod Fields
 pub mod Bytes
 pub mod Clock
 pub mod Laid
+pub mod Choice

@@ -3,7 +3,7 @@
 --     stays            where no step names it, accepted or not
 use mathlib.Core.Path.{_≡_, refl, _∙_}
 use mathlib.Core.Logic.{_≢_}
-use mathlib.Core.Bool.{Bool, true, false, cond, not}
+use mathlib.Core.Bool.{not}
 use mathlib.Core.List.{List, [], _∷_}
 use Prim.Native.Nat.{ℕ, zero, suc, _+_, _*_, _%_, _<_}
 use native.Mathlib.Omega.{arith}
@@ -11,6 +11,7 @@ use borrow.Author.Tests.{eqb-true}
 use lib.Dec.{T, eqb}
 use lib.ListN.{getD}
 use lib.Seq.{getD-set-other}
+use Rattle.registers.proofs.Choice.{by}
 use Rattle.registers.specs.Answers.{Ok}
 use Rattle.registers.specs.Registers.{CSR, CFTW0, CPOW0, ACR, LSRR}
 use Rattle.registers.specs.Csr.{byteOf}
@@ -30,10 +31,6 @@ lsrr-reached (suc zero) h t = t
 lsrr-reached (suc (suc zero)) h t = t
 lsrr-reached (suc (suc (suc zero))) h t = t
 lsrr-reached (suc (suc (suc (suc i)))) h t = omega arith
-
-either : (P : Told → Type 0) (t : Bool) {x y : Told} → (t ≡ true → P x) → P y → P (cond t x y)
-either P true p q = p refl
-either P false p q = q
 
 abbrev Same : ℕ → List ℕ → List ℕ → Type 0
 Same j image image′ = getD image′ j 0 ≡ getD image j 0
@@ -69,8 +66,8 @@ module _ (j : ℕ) where
   tells-stay mode [] x h = refl
   tells-stay mode (step ∷ steps) x h =
       tells-stay mode steps (tell mode x step) (h .1)
-      ∙ either (λ (y : Told). Same j (x .image) (y .image)) (eqb (numberAt mode (x .length) step) Ok)
-      (λ t. effect-stays mode (x .length) step (x .image) (h .0 (eqb-true (numberAt mode (x .length) step) Ok t))) refl
+      ∙ by (λ (y : Told). Same j (x .image) (y .image)) (eqb (numberAt mode (x .length) step) Ok)
+      (λ t. effect-stays mode (x .length) step (x .image) (h .0 (eqb-true (numberAt mode (x .length) step) Ok t))) (λ _. refl)
 
   spares : (mode : ℕ) (steps : List Step) (x : Told) → Spared j steps → SparedBy mode j x steps
   spares mode [] x h = tt

@@ -29,35 +29,29 @@ upward (negsuc n) y e f t = absurd (Bool.true≢false (rw e at t))
 small : (n : ℕ) → n < 2147483648 → toZ w32 (ofZ w32 (pos n)) ≡ pos n
 small n h = toZ-ofZ w32 (pos n) (record { sfits = h })
 
+negative : (c : tie.Then1) → let z = c .before .args .z in (n : ℕ) × (bitsOf z ≡ 4294967295 - n) × (negsuc 0 -ℤ toZ w32 (ofZ w32 z) ≡ pos n) × (n < 2147483648)
+negative c = below (c .before .args .z) _ (toZ-ofZ w32 (c .before .args .z) (c .before .fits .z)) (c .before .fits .z) (c .if1 .taken)
+
+positive : (c : tie.Else1) → let z = c .before .args .z in (n : ℕ) × (bitsOf z ≡ n) × (toZ w32 (ofZ w32 z) ≡ pos n) × (n < 2147483648)
+positive c = upward (c .before .args .z) _ (toZ-ofZ w32 (c .before .args .z) (c .before .fits .z)) (c .before .fits .z) (c .if1 .left)
+
 sub-result : tie.Need-sub-result
-sub-result c =
-    let d = below (c .before .args .z) _ (toZ-ofZ w32 (c .before .args .z) (c .before .fits .z)) (c .before .fits .z) (c .if1 .taken) in
-    rw (d .2) (record { sfits = d .3 })
+sub-result c = let d = negative c in rw (d .2) (record { sfits = d .3 })
 
 cast-result : tie.Need-cast-result
-cast-result c =
-    let d = below (c .before .args .z) _ (toZ-ofZ w32 (c .before .args .z) (c .before .fits .z)) (c .before .fits .z) (c .if1 .taken) in
-    rw (d .2, small (d .0) (d .3)) (tt, record { fits = omega arith })
+cast-result c = let d = negative c in rw (d .2, small (d .0) (d .3)) (tt, record { fits = omega arith })
 
 sub-result-2 : tie.Need-sub-result-2
-sub-result-2 c =
-    let d = below (c .before .args .z) _ (toZ-ofZ w32 (c .before .args .z) (c .before .fits .z)) (c .before .fits .z) (c .if1 .taken) in
-    rw (d .2, small (d .0) (d .3)) (omega arith)
+sub-result-2 c = let d = negative c in rw (d .2, small (d .0) (d .3)) (omega arith)
 
 cast-result-2 : tie.Need-cast-result-2
-cast-result-2 c =
-    let d = upward (c .before .args .z) _ (toZ-ofZ w32 (c .before .args .z) (c .before .fits .z)) (c .before .fits .z) (c .if1 .left) in
-    rw (d .2) (tt, record { fits = omega arith })
+cast-result-2 c = let d = positive c in rw (d .2) (tt, record { fits = omega arith })
 
 returns : tie.Need-returns
-returns c =
-    let d = below (c .before .args .z) _ (toZ-ofZ w32 (c .before .args .z) (c .before .fits .z)) (c .before .fits .z) (c .if1 .taken) in
-    rw (d .2, small (d .0) (d .3)) (sym (d .1))
+returns c = let d = negative c in rw (d .2, small (d .0) (d .3)) (sym (d .1))
 
 returns-2 : tie.Need-returns-2
-returns-2 c =
-    let d = upward (c .before .args .z) _ (toZ-ofZ w32 (c .before .args .z) (c .before .fits .z)) (c .before .fits .z) (c .if1 .left) in
-    rw (d .2) (sym (d .1))
+returns-2 c = let d = positive c in rw (d .2) (sym (d .1))
 
 pub bits-spec : {M : Type 1} → statement M
 bits-spec = tie.close (tie.spec sub-result cast-result sub-result-2 cast-result-2 returns returns-2)
