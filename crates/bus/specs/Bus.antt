@@ -8,6 +8,13 @@ use Rattle.bus.specs.declared.Action.{Action}
 use Rattle.bus.specs.declared.Action.the-variants.{Nothing, Pin, Delay, Configure, Write, Read}
 use Rattle.bus.specs.declared.Reply.{Reply}
 
+-- the two pins
+abbrev pub IoUpdate : ℕ
+IoUpdate = 0
+
+abbrev pub Reset : ℕ
+Reset = 1
+
 -- Interface or Pin, then Word; a failed flag on a delay is ignored; the u32 counts only for a read that didn't fail
 abbrev pub faultOf : Action → Reply → ℕ
 faultOf Nothing r = Over

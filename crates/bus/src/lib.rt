@@ -10,13 +10,13 @@ pub const IO_UPDATE: u32 = 0;
 
 pub const RESET: u32 = 1;
 
-// What a sequence hands out.
+// What a sequence hands out: a pin and whether it goes high, microseconds, a wire mode, an address and a value, an address.
 pub enum Action {
     Nothing,
-    Pin { pin: u32, high: bool },
+    Pin(u32, bool),
     Delay(u32),
     Configure(u32),
-    Write { address: u32, value: u32 },
+    Write(u32, u32),
     Read(u32),
 }
 
@@ -50,13 +50,10 @@ pub fn fault(action: Action, reply: Reply) -> u32
 {
     match action {
         Action::Nothing => answer::OVER,
-        Action::Pin { pin: _, high: _ } => failure(reply.failed, answer::PIN),
+        Action::Pin(_, _) => failure(reply.failed, answer::PIN),
         Action::Delay(_) => answer::OK,
         Action::Configure(_) => failure(reply.failed, answer::INTERFACE),
-        Action::Write {
-            address: _,
-            value: _,
-        } => failure(reply.failed, answer::INTERFACE),
+        Action::Write(_, _) => failure(reply.failed, answer::INTERFACE),
         Action::Read(address) => reading(address, reply),
     }
 }

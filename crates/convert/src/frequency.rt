@@ -6,7 +6,8 @@ use crate::Reading;
 use crate::Setting;
 use registers::answer;
 
-fn ready(ratio: f32) -> bool
+// Whether frequencies can be set and read on a ratio.
+pub fn ready(ratio: f32) -> bool
     ensures { λ r. ⌜ r ≡ ready ratio ⌝ }
 {
     binary32::within(8.0, ratio, 4295.0)

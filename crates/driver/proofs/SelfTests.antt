@@ -1,42 +1,31 @@
 -- The self test follows its table, so of any run, whatever the replies are:
---     self-test-in-order   what is handed out is the beginning of the table of the byte that was read first
---     self-test-stops      a failed reply ends it, and nothing more is handed out
---     self-test-passes     with good replies whose channel bits are those that were written, it is the whole table, and the last reply passes it
+--     in-order    what is handed out is the beginning of the table of the byte that was read first
+--     stops       a failed reply ends it, and nothing more is handed out
+--     goes        good replies whose channel bits are those that were written lead it to its last step, and a good reply there passes it
+--     passed      where a reply passes it, the whole table has been handed out
+--     on-chip     and CSR is left at the byte that was read first, every other register as it was
 use mathlib.Core.Path.{_≡_, refl, sym, ap, _∙_}
-use mathlib.Core.Logic.{⊎-elim}
-use mathlib.Core.Bool.{Bool, true, false, cond}
+use mathlib.Core.Bool.{Bool, true, cond, not, _&&_, and-eq-true-iff}
 use mathlib.Core.List.{List, [], _∷_, _++_}
-use Prim.Native.Nat.{ℕ, zero, suc, _+_, _/_, _<_, _≤_}
+use Prim.Native.Nat.{ℕ, zero, suc, _+_, _/_, _%_, _<_}
 use native.Mathlib.Omega.{arith}
-use borrow.Author.Tests.{ltb-true, ltb-false, ne-eqb, lt-ltb, le-ltb}
-use lib.Dec.{ltb, eqb, eqb·suc-zero}
-use lib.ListN.{getD, List·getD-eq-default}
+use borrow.Author.Tests.{eqb-true, ne-eqb, lt-ltb}
+use lib.Dec.{eqb, eqb·suc-zero}
+use lib.ListN.{getD, set}
+use lib.Seq.{set-set}
 use Rattle.registers.proofs.Choice.{by}
 use Rattle.registers.specs.Answers.{Ok}
-use Rattle.registers.specs.Registers.{CSR, widthOf}
+use Rattle.registers.specs.Registers.{CSR, widthOf, holds}
+use Rattle.image.specs.Image.{apply}
 use Rattle.bus.specs.declared.Action.{Action}
 use Rattle.bus.specs.declared.Action.the-variants.{Nothing, Pin, Delay, Configure, Write, Read}
 use Rattle.bus.specs.declared.Reply.{Reply}
 use Rattle.bus.specs.Bus.{faultOf}
-use Rattle.bus.specs.Sequence.{Some, values, acts, after, reached, Goes, Follows}
-use Rattle.bus.proofs.Runs.{shows, not-nothing, in-order, goes-on, goes-cons, whole, fault-ends, failed-fault, nothing-after}
+use Rattle.bus.specs.Sequence.{action, values, acts, reached, writes}
+use Rattle.bus.proofs.Runs.{good, failed, stands, Along, along, Follows, complete, failed-stops}
+use Rattle.bus.proofs.Runs as runs
 use Rattle.driver.specs.declared.self_test.SelfTest.{SelfTest}
-use Rattle.driver.specs.SelfTest.{table, start, actionOf, sequence, replyOf}
-
-pub past : (s : SelfTest) → 6 ≤ s .step → actionOf s ≡ Nothing
-unfolding actionOf
-past s h = by (λ (a : Action). a ≡ Nothing) (ltb 255 (s .old)) (λ e. refl) (λ e. List·getD-eq-default (table (s .old)) Nothing h)
-
--- where there is an action, it is the table's at the step
-entry : (s : SelfTest) → Some (actionOf s) → getD (table (s .old)) (s .step) Nothing ≡ actionOf s
-unfolding actionOf
-entry s = by (λ (a : Action). Some a → getD (table (s .old)) (s .step) Nothing ≡ a) (ltb 255 (s .old)) (λ e sh. absurd (not-nothing sh refl)) (λ e sh. refl)
-
-pub within : (s : SelfTest) → Some (actionOf s) → s .step < 6
-within s sh = by (λ (t : ℕ). s .step < 6) (ltb (s .step) 6) {x = 0} {y = 0} (ltb-true (s .step) 6) (λ e. absurd (not-nothing sh (past s (ltb-false (s .step) 6 e))))
-
-pub answered : (s : SelfTest) (r : Reply) → faultOf (actionOf s) r ≡ Ok → s .step < 6
-answered s r e = ⊎-elim (λ (z : actionOf s ≡ Nothing). absurd (omega (arith, e, ap (λ (a : Action). faultOf a r) z))) (within s) (shows (actionOf s))
+use Rattle.driver.specs.SelfTest.{table, start, differs, sequence, actionOf, replyOf}
 
 -- the table of the byte that is read first, where that is still to come
 abbrev pub tableOf : SelfTest → List ℕ → List Action
@@ -47,15 +36,17 @@ first-same : (k old : ℕ) (vs : List ℕ) → getD (table (cond (eqb k 0) (getD
 first-same zero old vs = refl
 first-same (suc k) old vs = ap (λ (b : Bool). getD (table (cond b (getD vs 0 0) old)) (suc k) Nothing) (eqb·suc-zero k)
 
-pub follows : Follows sequence (λ s. s .step) tableOf
+pub follows : Follows sequence 6 tableOf
 follows = record {
-  here = λ s vs sh. (within s sh, first-same (s .step) (s .old) vs ∙ entry s sh);
-  moves = λ s v vs sh e. (refl, rw (ne-eqb (s .step + 1) 0 (λ z. omega arith)));
-  over = λ s. past (record { step = 6; old = s .old }) (omega arith);
+  many = λ s. refl;
+  long = λ s vs. refl;
+  here = λ s vs. first-same (s .step) (s .old) vs;
+  moves = λ s v vs e. (refl, rw (ne-eqb (s .step + 1) 0 (λ z. omega arith)));
+  over = λ s. omega arith;
 }
 
-pub self-test-in-order : (rs : List Reply) → (l : List Action) × (acts sequence start rs ++ l ≡ table (getD (values rs) 0 0))
-self-test-in-order rs = in-order sequence (λ s. s .step) tableOf follows start rs
+pub in-order : (rs : List Reply) → (l : List Action) × (acts sequence start rs ++ l ≡ table (getD (values rs) 0 0))
+in-order rs = runs.in-order sequence 6 tableOf follows start rs
 
 -- there is no delay in the table
 abbrev delays : Action → ℕ
@@ -76,64 +67,65 @@ entry-no-delay old (suc (suc (suc (suc (suc zero))))) = refl
 entry-no-delay old (suc (suc (suc (suc (suc (suc k)))))) = refl
 
 no-delay : (s : SelfTest) (n : ℕ) → actionOf s ≡ Delay n → ⊥
-unfolding actionOf
-no-delay s n e = let z : delays (actionOf s) ≡ 0 = by (λ (a : Action). delays a ≡ 0) (ltb 255 (s .old)) (λ _. refl) (λ _. entry-no-delay (s .old) (s .step)) in let o : _≡_ {A = ℕ} 0 1 = sym z ∙ ap delays e in omega arith
+unfolding action
+no-delay s n e = let z : delays (actionOf s) ≡ 0 = by (λ (a : Action). delays a ≡ 0) (holds CSR (s .old)) (λ _. entry-no-delay (s .old) (s .step)) (λ _. refl) in let o : _≡_ {A = ℕ} 0 1 = sym z ∙ ap delays e in omega arith
 
-pub self-test-stops : (s : SelfTest) (rs : List Reply) (v : ℕ) (more : List Reply) → acts sequence s (rs ++ record { failed = true; value = v } ∷ more) ≡ acts sequence s rs
-self-test-stops s rs v more =
-    let t = reached sequence s rs in
-    nothing-after sequence (λ s. s .step) tableOf follows s rs (record { failed = true; value = v }) more
-    (fault-ends sequence (λ s. s .step) tableOf follows t (record { failed = true; value = v }) (failed-fault (actionOf t) v (no-delay t)))
-
--- a reply that did not fail
-abbrev good : ℕ → Reply
-good v = record { failed = false; value = v }
-
--- the record at each step of a test whose old byte is b
-abbrev at-step : ℕ → ℕ → SelfTest
-at-step k b = record { step = k; old = b }
-
--- a good reply to the table's action there
-answer-at : (k b v : ℕ) → b < 256 → faultOf (getD (table b) k Nothing) (good v) ≡ Ok → faultOf (actionOf (at-step k b)) (good v) ≡ Ok
-unfolding actionOf
-answer-at k b v h e = rw (le-ltb 255 b (omega arith)) e
-
-read-well : (v : ℕ) → v < 256 → faultOf (Read CSR) (good v) ≡ Ok
-unfolding widthOf
-read-well v h = rw (lt-ltb v 256 h)
+pub stops : (s : SelfTest) (rs : List Reply) (v : ℕ) (more : List Reply) → acts sequence s (rs ++ failed v ∷ more) ≡ acts sequence s rs
+stops s rs v more = failed-stops sequence 6 tableOf follows s rs v more (no-delay (reached sequence s rs))
 
 module _ (b v w x y z : ℕ) (h : b < 256) (k : v < 256) (l : x < 16) (f : v / 16 ≡ 15) where
-  answers : (k v : ℕ) → faultOf (getD (table b) k Nothing) (good v) ≡ Ok → faultOf (actionOf (at-step k b)) (good v) ≡ Ok
-  answers k v = answer-at k b v h
+  -- the record at each step
+  abbrev at : ℕ → SelfTest
+  at k = record { step = k; old = cond (eqb k 0) 0 b }
 
-  none : x / 16 ≡ 0
-  none = omega arith
+  byte : (v : ℕ) → v < 256 → holds CSR v ≡ true
+  unfolding widthOf
+  byte v h = lt-ltb v 256 h
 
-  abbrev first-five : List Reply
-  first-five = good b ∷ good w ∷ good v ∷ good y ∷ good x ∷ []
+  -- a good reply to the table's entry there
+  fine : (k v : ℕ) → faultOf (getD (table (at k .old)) k Nothing) (good v) ≡ Ok → faultOf (actionOf (at k)) (good v) ≡ Ok
+  fine k v e = ap (λ (a : Action). faultOf a (good v)) (sym (stands sequence (at k) (by (λ (n : ℕ). holds CSR n ≡ true) (eqb k 0) (λ _. byte 0 (omega arith)) (λ _. byte b h)))) ∙ e
 
-  goes : Goes sequence start (first-five ++ good z ∷ [])
-  goes =
-      let on = goes-cons sequence (λ s. s .step) tableOf follows in
-      on start (good b) (good w ∷ good v ∷ good y ∷ good x ∷ good z ∷ []) (answer-at 0 0 b (omega arith) (read-well b h)) refl
-      (on (at-step 1 b) (good w) (good v ∷ good y ∷ good x ∷ good z ∷ []) (answers 1 w refl) refl
-      (on (at-step 2 b) (good v) (good y ∷ good x ∷ good z ∷ []) (answers 2 v (read-well v k)) (rw f)
-      (on (at-step 3 b) (good y) (good x ∷ good z ∷ []) (answers 3 y refl) refl
-      (on (at-step 4 b) (good x) (good z ∷ []) (answers 4 x (read-well x (omega arith))) (rw none)
-      (on (at-step 5 b) (good z) [] (answers 5 z refl) refl tt)))))
+  abbrev replies : List Reply
+  replies = good b ∷ good w ∷ good v ∷ good y ∷ good x ∷ []
 
-  -- a good reply moves it on
-  on-to : (s : SelfTest) (v : ℕ) → faultOf (actionOf s) (good v) ≡ Ok → sequence .stops s v ≡ false → after sequence s (good v) ≡ sequence .onward s v
-  on-to s v = goes-on sequence (λ s. s .step) tableOf follows s (good v)
+  going : Along sequence at 0 replies
+  going =
+      let none : x / 16 ≡ 0 = omega arith in (
+        fine 0 b (rw (byte b h)),
+        refl,
+        refl,
+        (
+          fine 1 w refl,
+          refl,
+          refl,
+          (
+            fine 2 v (rw (byte v k)),
+            rw f,
+            refl,
+            (
+              fine 3 y refl,
+              refl,
+              refl,
+              (fine 4 x (rw (byte x (omega arith))), rw none, refl, tt),
+            ),
+          ),
+        ),
+      )
 
-  reaches-last : reached sequence start first-five ≡ at-step 5 b
-  reaches-last =
-      rw (on-to start b (answer-at 0 0 b (omega arith) (read-well b h)) refl)
-      (rw (on-to (at-step 1 b) w (answers 1 w refl) refl)
-      (rw (on-to (at-step 2 b) v (answers 2 v (read-well v k)) (rw f))
-      (rw (on-to (at-step 3 b) y (answers 3 y refl) refl)
-      (on-to (at-step 4 b) x (answers 4 x (read-well x (omega arith))) (rw none)))))
-
-  pub self-test-passes : (acts sequence start (first-five ++ good z ∷ []) ≡ table b) × (replyOf (reached sequence start first-five) (good z) .passed ≡ true)
+  pub goes : (reached sequence start replies ≡ at 5) × (replyOf (at 5) (good z) .passed ≡ true)
   unfolding replyOf
-  self-test-passes = (whole sequence (λ s. s .step) tableOf follows start (first-five ++ good z ∷ []) goes refl, rw (reaches-last, answers 5 z refl))
+  goes = (along sequence at 0 replies going, rw (fine 5 z refl))
+
+module _ (rs : List Reply) (r : Reply) (more : List Reply) (e : replyOf (reached sequence start rs) r .passed ≡ true) where
+  pub passed : acts sequence start (rs ++ r ∷ more) ≡ table (getD (values rs) 0 0)
+  unfolding replyOf
+  passed =
+      let s = reached sequence start rs in
+      let fault = faultOf (actionOf s) r in
+      let p = and-eq-true-iff (eqb fault Ok) (not (differs (s .step) (r .value)) && eqb (s .step) 5) .0 e in
+      let last = eqb-true (s .step) 5 (and-eq-true-iff (not (differs (s .step) (r .value))) (eqb (s .step) 5) .0 (p .1) .1) in
+      complete sequence 6 tableOf follows start rs r more (eqb-true fault Ok (p .0)) (ap suc last)
+
+  pub on-chip : (image : List ℕ) → apply (writes (acts sequence start (rs ++ r ∷ more))) image ≡ set image CSR (getD (values rs) 0 0)
+  on-chip image = let b = getD (values rs) 0 0 in rw (passed, set-set image CSR (b % 16 + 240) (b % 16), set-set image CSR (b % 16) b)

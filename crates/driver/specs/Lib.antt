@@ -1,1 +1,5 @@
+pub mod Driver
+pub mod Startup
+pub mod Channel
+pub mod Register
 pub mod SelfTest

@@ -2,15 +2,14 @@
 use Prim.Native.Nat.{ℕ, _+_, _/_, _%_}
 use mathlib.Core.Bool.{Bool, false, _&&_, not, cond}
 use mathlib.Core.List.{List, [], _∷_}
-use lib.Dec.{ltb, eqb}
-use lib.ListN.{getD}
+use lib.Dec.{eqb}
 use Rattle.registers.specs.Answers.{Ok}
-use Rattle.registers.specs.Registers.{CSR}
+use Rattle.registers.specs.Registers.{CSR, holds}
 use Rattle.bus.specs.declared.Action.{Action}
-use Rattle.bus.specs.declared.Action.the-variants.{Nothing, Write, Read}
+use Rattle.bus.specs.declared.Action.the-variants.{Write, Read}
 use Rattle.bus.specs.declared.Reply.{Reply}
 use Rattle.bus.specs.Bus.{faultOf}
-use Rattle.bus.specs.Sequence.{Sequence, after}
+use Rattle.bus.specs.Sequence.{Sequence, action, after}
 use Rattle.driver.specs.declared.self_test.SelfTest.{SelfTest}
 use Rattle.driver.specs.declared.self_test.Tested.{Tested}
 
@@ -21,10 +20,6 @@ table old = Read CSR ∷ Write CSR (old % 16 + 240) ∷ Read CSR ∷ Write CSR (
 abbrev pub start : SelfTest
 start = record { step = 0; old = 0 }
 
--- a step that isn't its own, or an old byte out of range, counts as ended
-unfoldable pub actionOf : SelfTest → Action
-actionOf s = cond (ltb 255 (s .old)) Nothing (getD (table (s .old)) (s .step) Nothing)
-
 -- a read whose channel bits differ
 abbrev pub differs : ℕ → ℕ → Bool
 differs step v = cond (eqb step 2) (not (eqb (v / 16) 15)) (cond (eqb step 4) (not (eqb (v / 16) 0)) false)
@@ -33,14 +28,22 @@ differs step v = cond (eqb step 2) (not (eqb (v / 16) 15)) (cond (eqb step 4) (n
 abbrev pub keptOf : ℕ → ℕ → ℕ → ℕ
 keptOf step v old = cond (eqb step 0) v old
 
-abbrev pub onward : SelfTest → ℕ → SelfTest
-onward s v = record { step = s .step + 1; old = keptOf (s .step) v (s .old) }
-
 abbrev pub ended : SelfTest → SelfTest
 ended s = record { step = 6; old = s .old }
 
+-- an old byte out of range counts as ended
 abbrev pub sequence : Sequence SelfTest
-sequence = record { action = actionOf; stops = λ s v. differs (s .step) v; onward = onward; ended = ended }
+sequence = record {
+  legal = λ s. holds CSR (s .old);
+  step = λ s. s .step;
+  table = λ s. table (s .old);
+  stops = λ s v. differs (s .step) v;
+  onward = λ s v. record { step = s .step + 1; old = keptOf (s .step) v (s .old) };
+  ended = ended;
+}
+
+abbrev pub actionOf : SelfTest → Action
+actionOf = action sequence
 
 -- passed with the good reply to the restoring write; a differing read ends it with Ok and false
 unfoldable pub replyOf : SelfTest → Reply → Tested

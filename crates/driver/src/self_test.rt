@@ -31,30 +31,21 @@ pub fn action(sequence: SelfTest) -> Action
 {
     let step = sequence.step as usize;
     let old = sequence.old;
-    if 255 < old {
-        return Action::Nothing;
-    }
     if 5 < step {
         return Action::Nothing;
     }
-    let plan = [
-        Action::Read(address::CSR),
-        Action::Write {
-            address: address::CSR,
-            value: old % 16 + 240,
-        },
-        Action::Read(address::CSR),
-        Action::Write {
-            address: address::CSR,
-            value: old % 16,
-        },
-        Action::Read(address::CSR),
-        Action::Write {
-            address: address::CSR,
-            value: old,
-        },
-    ];
-    plan[step]
+    if address::holds(address::CSR, old) {
+        let plan = [
+            Action::Read(address::CSR),
+            Action::Write(address::CSR, old % 16 + 240),
+            Action::Read(address::CSR),
+            Action::Write(address::CSR, old % 16),
+            Action::Read(address::CSR),
+            Action::Write(address::CSR, old),
+        ];
+        return plan[step];
+    }
+    Action::Nothing
 }
 
 // Whether the channel bits that were read are not those that were written.

@@ -1,8 +1,8 @@
 -- `driver::self_test::reply` meets its contract. Assumes nothing.
 use native.Mathlib.Omega.{arith}
-use mathlib.Core.Path.{_≡_, sym, ap, _∙_}
+use mathlib.Core.Path.{_≡_, sym, _∙_}
 use mathlib.Core.Bool.{true, false}
-use Prim.Native.Nat.{ℕ}
+use Prim.Native.Nat.{ℕ, _<_}
 use borrow.Author.Tests.{ne-eqb}
 use lib.Dec.{eqb}
 use Rattle.registers.specs.Answers.{Ok, Over}
@@ -11,44 +11,47 @@ use Rattle.bus.specs.declared.Reply.{Reply}
 use Rattle.bus.specs.Bus.{faultOf}
 use Rattle.bus.specs.Sequence.{after}
 use Rattle.driver.specs.declared.self_test.SelfTest.{SelfTest}
-use Rattle.driver.specs.SelfTest.{actionOf, differs, onward, ended, replyOf}
-use Rattle.driver.proofs.SelfTests.{answered}
+use Rattle.driver.specs.SelfTest.{actionOf, differs, sequence, ended, replyOf}
+use Rattle.bus.proofs.Runs.{answered}
 use borrow.Author.Needs.{needs}
 use Rattle.driver.proofs.self_test.reply.Statement.{statement}
 use Rattle.driver.proofs.self_test.reply.Tie as tie
 
 -- the four ways a reply goes
-module _ (s : SelfTest) (r : Reply) {n : ℕ} (e : n ≡ faultOf (actionOf s) r) where
+module _ (s : SelfTest) (r : Reply) {a : Action} {n : ℕ} (g : a ≡ actionOf s) (e : n ≡ faultOf a r) where
+  running : n ≡ Ok → s .step < 6
+  running z = answered sequence s r (rw (← g, ← e) z) .1
+
   over : n ≡ Over → record { number = n; passed = false; sequence = s } ≡ replyOf s r
   unfolding replyOf after
-  over z = rw (← e, z)
+  over z = rw (← g, ← e, z)
 
   faulty : (n ≡ Over → ⊥) → (n ≡ Ok → ⊥) → record { number = n; passed = false; sequence = ended s } ≡ replyOf s r
   unfolding replyOf after
-  faulty h k = rw (← e, ne-eqb n Over h, ne-eqb n Ok k)
+  faulty h k = rw (← g, ← e, ne-eqb n Over h, ne-eqb n Ok k)
 
   stopped : n ≡ Ok → differs (s .step) (r .value) ≡ true → record { number = n; passed = false; sequence = ended s } ≡ replyOf s r
   unfolding replyOf after
-  stopped z t = rw (← e, z, t)
+  stopped z t = rw (← g, ← e, z, t)
 
-  moved : n ≡ Ok → differs (s .step) (r .value) ≡ false → record { number = n; passed = eqb (s .step) 5; sequence = onward s (r .value) } ≡ replyOf s r
+  moved : n ≡ Ok → differs (s .step) (r .value) ≡ false → record { number = n; passed = eqb (s .step) 5; sequence = sequence .onward s (r .value) } ≡ replyOf s r
   unfolding replyOf after
-  moved z t = rw (← e, z, t)
+  moved z t = rw (← g, ← e, z, t)
 
 returns : tie.Need-returns
-returns c = over _ _ (c .before .fault .ensures ∙ ap (λ (a : Action). faultOf a (c .before .before .before .args .reply)) (c .before .before .action .ensures)) (c .if1 .taken)
+returns c = over _ _ (c .before .before .action .ensures) (c .before .fault .ensures) (c .if1 .taken)
 
 returns-2 : tie.Need-returns-2
-returns-2 c = c .ended .ensures ∙ faulty _ _ (c .before .before .before .fault .ensures ∙ ap (λ (a : Action). faultOf a (c .before .before .before .before .before .args .reply)) (c .before .before .before .before .action .ensures)) (c .before .before .if1 .left) (c .before .if2 .taken)
+returns-2 c = c .ended .ensures ∙ faulty _ _ (c .before .before .before .before .action .ensures) (c .before .before .before .fault .ensures) (c .before .before .if1 .left) (c .before .if2 .taken)
 
 returns-3 : tie.Need-returns-3
-returns-3 c = c .ended2 .ensures ∙ stopped _ _ (c .before .before .before .before .before .fault .ensures ∙ ap (λ (a : Action). faultOf a (c .before .before .before .before .before .before .before .args .reply)) (c .before .before .before .before .before .before .action .ensures)) (c .before .before .before .if2 .left) (sym (c .before .before .differs .ensures) ∙ c .before .if3 .taken)
+returns-3 c = c .ended2 .ensures ∙ stopped _ _ (c .before .before .before .before .before .before .action .ensures) (c .before .before .before .before .before .fault .ensures) (c .before .before .before .if2 .left) (sym (c .before .before .differs .ensures) ∙ c .before .if3 .taken)
 
 add-t11 : tie.Need-add-t11
-add-t11 c = let h = answered _ _ (sym (c .before .before .before .before .before .fault .ensures ∙ ap (λ (a : Action). faultOf a (c .before .before .before .before .before .before .before .args .reply)) (c .before .before .before .before .before .before .action .ensures)) ∙ c .before .before .before .if2 .left) in record { fits = omega arith }
+add-t11 c = let h = running _ _ (c .before .before .before .before .before .before .action .ensures) (c .before .before .before .before .before .fault .ensures) (c .before .before .before .if2 .left) in record { fits = omega arith }
 
 returns-4 : tie.Need-returns-4
-returns-4 c = rw (c .kept .ensures) (moved _ _ (c .before .before .before .before .before .fault .ensures ∙ ap (λ (a : Action). faultOf a (c .before .before .before .before .before .before .before .args .reply)) (c .before .before .before .before .before .before .action .ensures)) (c .before .before .before .if2 .left) (sym (c .before .before .differs .ensures) ∙ c .before .if3 .left))
+returns-4 c = rw (c .kept .ensures) (moved _ _ (c .before .before .before .before .before .before .action .ensures) (c .before .before .before .before .before .fault .ensures) (c .before .before .before .if2 .left) (sym (c .before .before .differs .ensures) ∙ c .before .if3 .left))
 
 pub reply-spec : {M : Type 1} → statement M
 reply-spec = tie.close (tie.spec (λ c κs. search needs) (λ c κs. search needs) returns (λ c κs. search needs) returns-2 (λ c κs. search needs) (λ c κs. search needs) returns-3 (λ c κs. search needs) add-t11 returns-4)
