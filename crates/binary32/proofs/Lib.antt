@@ -1,3 +1,4 @@
 pub mod Moves
 pub mod Pattern
 pub mod Ones
+pub mod Nans

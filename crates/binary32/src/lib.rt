@@ -1,7 +1,7 @@
-// What Rust's casts do with an f32, worked out by the port itself.
+// What Rust's casts do with an f32, worked out by the port itself, and its bit pattern.
 ghost use mathlib.Core.Path.{_≡_};
 ghost use Prim.Native.Nat.{_-_, _*_, _/_, _^_, _≤_, min};
-ghost use lib.Ieee.{toUnsigned};
+ghost use lib.Ieee.{binary32, nan, ofBits, toBits, toUnsigned};
 ghost use Rattle.binary32.specs.Floats.{whole, within};
 
 // q * 2^e / 2^158 cut toward zero, and the largest number where that is more: a halving for each step of the exponent.
@@ -52,4 +52,31 @@ pub fn within(lo: f32, x: f32, hi: f32) -> bool
     ensures { λ r. ⌜ r ≡ within lo x hi ⌝ }
 {
     lo <= x && x <= hi
+}
+
+// A float's bit pattern: of a NaN the one with the sign clear and the highest digit set.
+pub fn to_bits(x: f32) -> u32
+    ensures { λ r. ⌜ r ≡ toBits binary32 x ⌝ }
+{
+    if x != x {
+        return 0x7fc0_0000;
+    }
+    f32::to_bits(x)
+}
+
+fn nan() -> f32
+    ensures { λ r. ⌜ r ≡ nan ⌝ }
+{
+    let zero = 0.0;
+    zero / zero
+}
+
+// The float of a bit pattern.
+pub fn of_bits(pattern: u32) -> f32
+    ensures { λ r. ⌜ r ≡ ofBits binary32 pattern ⌝ }
+{
+    if 0x7f80_0000 < pattern % 0x8000_0000 {
+        return nan();
+    }
+    f32::from_bits(pattern)
 }

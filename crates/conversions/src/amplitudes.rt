@@ -14,11 +14,15 @@ fn settings() {
     amplitude(b"9", b"amplitude 1.0", 1.0);
     amplitude(b"", b"amplitude 0.0", 0.0);
     amplitude(b"", b"amplitude -0.0", -0.0);
-    amplitude(b"", b"amplitude smallest subnormal", float::of(1));
+    amplitude(b"", b"amplitude smallest subnormal", binary32::of_bits(1));
 }
 
 fn odd_settings() {
-    amplitude(b"", b"amplitude smallest negative", float::of(0x8000_0001));
+    amplitude(
+        b"",
+        b"amplitude smallest negative",
+        binary32::of_bits(0x8000_0001),
+    );
     amplitude(b"", b"amplitude NaN", float::nan());
     amplitude(b"", b"amplitude infinity", float::infinity());
     amplitude(b"", b"amplitude -infinity", -float::infinity());

@@ -22,7 +22,12 @@ fn odd_cuts() {
     around(Rule::Cut, b"", b"cut NaN", float::nan());
     around(Rule::Cut, b"", b"cut infinity", float::infinity());
     around(Rule::Cut, b"", b"cut -infinity", -float::infinity());
-    around(Rule::Cut, b"", b"cut smallest subnormal", float::of(1));
+    around(
+        Rule::Cut,
+        b"",
+        b"cut smallest subnormal",
+        binary32::of_bits(1),
+    );
 }
 
 fn cuts16() {

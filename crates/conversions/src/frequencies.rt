@@ -20,8 +20,12 @@ fn settings() {
 fn odd_settings() {
     frequency(b"", b"frequency 0.0", 0.0);
     frequency(b"", b"frequency -0.0", -0.0);
-    frequency(b"", b"frequency smallest subnormal", float::of(1));
-    frequency(b"", b"frequency smallest negative", float::of(0x8000_0001));
+    frequency(b"", b"frequency smallest subnormal", binary32::of_bits(1));
+    frequency(
+        b"",
+        b"frequency smallest negative",
+        binary32::of_bits(0x8000_0001),
+    );
     frequency(b"", b"frequency NaN", float::nan());
     frequency(b"", b"frequency infinity", float::infinity());
     frequency(b"", b"frequency -infinity", -float::infinity());

@@ -17,9 +17,17 @@ fn numbered() {
 
 fn small() {
     phase(b"", b"phase -0.0", -0.0);
-    phase(b"", b"phase smallest subnormal", float::of(1));
-    phase(b"", b"phase smallest negative", float::of(0x8000_0001));
-    phase(b"", b"phase largest subnormal", float::of(0x007f_ffff));
+    phase(b"", b"phase smallest subnormal", binary32::of_bits(1));
+    phase(
+        b"",
+        b"phase smallest negative",
+        binary32::of_bits(0x8000_0001),
+    );
+    phase(
+        b"",
+        b"phase largest subnormal",
+        binary32::of_bits(0x007f_ffff),
+    );
     phase(b"", b"phase infinity", float::infinity());
 }
 

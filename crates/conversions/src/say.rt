@@ -41,7 +41,7 @@ pub fn decimal(n: u32, width: usize) {
 // A float's bit pattern.
 pub fn float(x: f32) {
     if x == x {
-        word(crate::float::pattern(x), 8);
+        word(binary32::to_bits(x), 8);
     } else {
         text(b"NaN       ");
     }

@@ -2,3 +2,4 @@ pub mod Sizes
 pub mod Puts
 pub mod Left
 pub mod Again
+pub mod InPlace

@@ -17,6 +17,10 @@ abbrev pub bitsOf : ℤ → ℕ
 bitsOf (pos n) = n % 4294967296
 bitsOf (negsuc n) = 4294967295 - n % 4294967296
 
+-- and back
+abbrev pub signedOf : ℕ → ℤ
+signedOf n = cond (ltb n 2147483648) (pos n) (negsuc (4294967295 - n))
+
 abbrev pub wordOf : Tuning → Value
 wordOf (Tune z) = Given (bitsOf z)
 wordOf Keep = Absent

@@ -1,9 +1,10 @@
 // The profile serializer: register writes collected in 32 bytes, to be sent as words.
 ghost use mathlib.Core.Path.{_≡_};
-ghost use Rattle.profile.specs.Rules.{bitsOf};
+ghost use Rattle.profile.specs.Rules.{bitsOf, signedOf};
 ghost use Rattle.profile.specs.Serializer.{newOf, pushOf, Finalizes, FeedsFrom};
 use registers::answer;
 
+pub mod in_place;
 mod judge;
 mod lay;
 pub mod lent;
@@ -50,6 +51,17 @@ pub fn bits(z: i32) -> u32
     } else {
         z as u32
     }
+}
+
+// The tuning word that some bits are.
+pub fn signed(bits: u32) -> i32
+    ensures { λ r. ⌜ r ≡ signedOf bits ⌝ }
+{
+    if bits < 2147483648 {
+        return bits as i32;
+    }
+    let rest = 4294967295 - bits;
+    -1 - (rest as i32)
 }
 
 // A serializer for a mode.
