@@ -2,10 +2,11 @@
 --     in-order    what is handed out is the beginning of the table of the byte that was read first
 --     stops       a failed reply ends it, and nothing more is handed out
 --     goes        good replies whose channel bits are those that were written lead it to its last step, and a good reply there passes it
+--     differing   a read whose channel bits differ ends it with Ok and false, and the old byte is not restored
 --     passed      where a reply passes it, the whole table has been handed out
 --     on-chip     and CSR is left at the byte that was read first, every other register as it was
 use mathlib.Core.Path.{_≡_, refl, sym, ap, _∙_}
-use mathlib.Core.Bool.{Bool, true, cond, not, _&&_, and-eq-true-iff}
+use mathlib.Core.Bool.{Bool, true, false, cond, not, _&&_, and-eq-true-iff}
 use mathlib.Core.List.{List, [], _∷_, _++_}
 use Prim.Native.Nat.{ℕ, zero, suc, _+_, _/_, _%_, _<_}
 use native.Mathlib.Omega.{arith}
@@ -21,11 +22,11 @@ use Rattle.bus.specs.declared.Action.{Action}
 use Rattle.bus.specs.declared.Action.the-variants.{Nothing, Pin, Delay, Configure, Write, Read}
 use Rattle.bus.specs.declared.Reply.{Reply}
 use Rattle.bus.specs.Bus.{faultOf}
-use Rattle.bus.specs.Sequence.{action, values, acts, reached, writes}
-use Rattle.bus.proofs.Runs.{good, failed, stands, Along, along, Follows, complete, failed-stops}
+use Rattle.bus.specs.Sequence.{action, after, values, acts, reached, writes}
+use Rattle.bus.proofs.Runs.{good, failed, beyond, stands, Along, along, Follows, complete, failed-stops}
 use Rattle.bus.proofs.Runs as runs
 use Rattle.driver.specs.declared.self_test.SelfTest.{SelfTest}
-use Rattle.driver.specs.SelfTest.{table, start, differs, sequence, actionOf, replyOf}
+use Rattle.driver.specs.SelfTest.{table, start, differs, ended, sequence, actionOf, replyOf}
 
 -- the table of the byte that is read first, where that is still to come
 abbrev pub tableOf : SelfTest → List ℕ → List Action
@@ -116,6 +117,11 @@ module _ (b v w x y z : ℕ) (h : b < 256) (k : v < 256) (l : x < 16) (f : v / 1
   pub goes : (reached sequence start replies ≡ at 5) × (replyOf (at 5) (good z) .passed ≡ true)
   unfolding replyOf
   goes = (along sequence at 0 replies going, rw (fine 5 z refl))
+
+pub differing : (s : SelfTest) (v : ℕ) → faultOf (actionOf s) (good v) ≡ Ok → differs (s .step) v ≡ true
+    → (replyOf s (good v) ≡ record { number = Ok; done = true; passed = false; sequence = ended s }) × (actionOf (ended s) ≡ Nothing)
+unfolding replyOf after
+differing s v e d = (rw (e, d), beyond sequence (ended s) (omega arith))
 
 module _ (rs : List Reply) (r : Reply) (more : List Reply) (e : replyOf (reached sequence start rs) r .passed ≡ true) where
   pub passed : acts sequence start (rs ++ r ∷ more) ≡ table (getD (values rs) 0 0)

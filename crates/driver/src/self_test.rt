@@ -13,9 +13,10 @@ pub struct SelfTest {
     pub old: u32,
 }
 
-// A number, whether the test has passed, and the sequence.
+// A number, whether the test has come to its end and whether it has passed, and the sequence.
 pub struct Tested {
     pub number: u32,
+    pub done: bool,
     pub passed: bool,
     pub sequence: SelfTest,
 }
@@ -67,11 +68,12 @@ fn kept(step: u32, value: u32, old: u32) -> u32
     if step == 0 { value } else { old }
 }
 
-fn ended(number: u32, old: u32) -> Tested
-    ensures { λ r. ⌜ r ≡ record { number = number; passed = false; sequence = record { step = 6; old = old } } ⌝ }
+fn ended(number: u32, done: bool, old: u32) -> Tested
+    ensures { λ r. ⌜ r ≡ record { number = number; done = done; passed = false; sequence = record { step = 6; old = old } } ⌝ }
 {
     Tested {
         number,
+        done,
         passed: false,
         sequence: SelfTest { step: 6, old },
     }
@@ -87,19 +89,21 @@ pub fn reply(sequence: SelfTest, reply: Reply) -> Tested
     if number == answer::OVER {
         return Tested {
             number,
+            done: false,
             passed: false,
             sequence,
         };
     }
     if number != answer::OK {
-        return ended(number, old);
+        return ended(number, false, old);
     }
     if differs(step, value) {
-        return ended(number, old);
+        return ended(number, true, old);
     }
     let first = kept(step, value, old);
     Tested {
         number,
+        done: step == 5,
         passed: step == 5,
         sequence: SelfTest {
             step: step + 1,

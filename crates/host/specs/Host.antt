@@ -39,8 +39,9 @@ transferredOf r = record { number = r .number; outcome = cond (r .done) (Float (
 abbrev pub foundOf : Found → Step
 foundOf r = record { number = r .number; outcome = cond (r .done) (Word (r .value)) Nothing; sequence = Register (r .sequence) }
 
+-- whether the self test has passed, once it is done
 abbrev pub testedOf : Tested → Step
-testedOf r = record { number = r .number; outcome = Passed (r .passed); sequence = SelfTest (r .sequence) }
+testedOf r = record { number = r .number; outcome = cond (r .done) (Passed (r .passed)) Nothing; sequence = SelfTest (r .sequence) }
 
 abbrev pub replyOf : Sequence → Reply → Step
 replyOf (Startup s) r = startedOf (startup.replyOf s r)

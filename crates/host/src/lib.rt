@@ -103,7 +103,11 @@ fn tested(r: Tested) -> Step
     let next = r.sequence;
     Step {
         number: r.number,
-        outcome: Outcome::Passed(r.passed),
+        outcome: if r.done {
+            Outcome::Passed(r.passed)
+        } else {
+            Outcome::Nothing
+        },
         sequence: Sequence::SelfTest(next),
     }
 }

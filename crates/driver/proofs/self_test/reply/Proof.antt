@@ -22,19 +22,19 @@ module _ (s : SelfTest) (r : Reply) {a : Action} {n : ℕ} (g : a ≡ actionOf s
   running : n ≡ Ok → s .step < 6
   running z = answered sequence s r (rw (← g, ← e) z) .1
 
-  over : n ≡ Over → record { number = n; passed = false; sequence = s } ≡ replyOf s r
+  over : n ≡ Over → record { number = n; done = false; passed = false; sequence = s } ≡ replyOf s r
   unfolding replyOf after
   over z = rw (← g, ← e, z)
 
-  faulty : (n ≡ Over → ⊥) → (n ≡ Ok → ⊥) → record { number = n; passed = false; sequence = ended s } ≡ replyOf s r
+  faulty : (n ≡ Over → ⊥) → (n ≡ Ok → ⊥) → record { number = n; done = false; passed = false; sequence = ended s } ≡ replyOf s r
   unfolding replyOf after
   faulty h k = rw (← g, ← e, ne-eqb n Over h, ne-eqb n Ok k)
 
-  stopped : n ≡ Ok → differs (s .step) (r .value) ≡ true → record { number = n; passed = false; sequence = ended s } ≡ replyOf s r
+  stopped : n ≡ Ok → differs (s .step) (r .value) ≡ true → record { number = n; done = true; passed = false; sequence = ended s } ≡ replyOf s r
   unfolding replyOf after
   stopped z t = rw (← g, ← e, z, t)
 
-  moved : n ≡ Ok → differs (s .step) (r .value) ≡ false → record { number = n; passed = eqb (s .step) 5; sequence = sequence .onward s (r .value) } ≡ replyOf s r
+  moved : n ≡ Ok → differs (s .step) (r .value) ≡ false → record { number = n; done = eqb (s .step) 5; passed = eqb (s .step) 5; sequence = sequence .onward s (r .value) } ≡ replyOf s r
   unfolding replyOf after
   moved z t = rw (← g, ← e, z, t)
 
@@ -47,11 +47,11 @@ returns-2 c = c .ended .ensures ∙ faulty _ _ (c .before .before .before .befor
 returns-3 : tie.Need-returns-3
 returns-3 c = c .ended2 .ensures ∙ stopped _ _ (c .before .before .before .before .before .before .action .ensures) (c .before .before .before .before .before .fault .ensures) (c .before .before .before .if2 .left) (sym (c .before .before .differs .ensures) ∙ c .before .if3 .taken)
 
-add-t11 : tie.Need-add-t11
-add-t11 c = let h = running _ _ (c .before .before .before .before .before .before .action .ensures) (c .before .before .before .before .before .fault .ensures) (c .before .before .before .if2 .left) in record { fits = omega arith }
+add-t12 : tie.Need-add-t12
+add-t12 c = let h = running _ _ (c .before .before .before .before .before .before .action .ensures) (c .before .before .before .before .before .fault .ensures) (c .before .before .before .if2 .left) in record { fits = omega arith }
 
 returns-4 : tie.Need-returns-4
 returns-4 c = rw (c .kept .ensures) (moved _ _ (c .before .before .before .before .before .before .action .ensures) (c .before .before .before .before .before .fault .ensures) (c .before .before .before .if2 .left) (sym (c .before .before .differs .ensures) ∙ c .before .if3 .left))
 
 pub reply-spec : {M : Type 1} → statement M
-reply-spec = tie.close (tie.spec (λ c κs. search needs) (λ c κs. search needs) returns (λ c κs. search needs) returns-2 (λ c κs. search needs) (λ c κs. search needs) returns-3 (λ c κs. search needs) add-t11 returns-4)
+reply-spec = tie.close (tie.spec (λ c κs. search needs) (λ c κs. search needs) returns (λ c κs. search needs) returns-2 (λ c κs. search needs) (λ c κs. search needs) returns-3 (λ c κs. search needs) add-t12 returns-4)
