@@ -1,7 +1,8 @@
-//! Loops of one side each, for instruction counts and native time. The inputs are hidden from the compiler, and so are the results.
+//! Loops of one side each, for instruction counts and native time: the C functions as they are, and the original behind one function each. The
+//! inputs are hidden from the compiler, and so are the results.
 use crate::original::{self, Registers};
 use ad9959::ProfileSerializer;
-use port::Profile;
+use port::{Profile, sys};
 use std::hint::black_box as hide;
 use std::time::Instant;
 
@@ -20,7 +21,7 @@ fn pushes(what: &str) -> &'static [(u32, u32)] {
 
 fn profile(side: &str, what: &str, n: u64) {
     let (pushes, fin) = (pushes(what), what.starts_with("finalize"));
-    let mut words = [0; 8];
+    let (mut words, mut count) = ([0; 8], 0);
     for k in 0..n {
         let word = k as i32;
         match side {
@@ -37,10 +38,12 @@ fn profile(side: &str, what: &str, n: u64) {
             "port" => {
                 let mut p = Profile::new(3);
                 for &(mask, presence) in hide(pushes) {
-                    let _ = p.push_numbers(mask, presence, hide(word), hide(0x1234), hide(0x1200));
+                    sys::ad9959_push(p.mode, &mut p.length, &mut p.bytes, mask, presence, hide(word), hide(0x1234), hide(0x1200));
                 }
                 if fin {
-                    let _ = hide(p.finalize(hide(&mut words)));
+                    // SAFETY: the pointer and the length are one array's.
+                    unsafe { sys::ad9959_finalize(p.mode, &mut p.length, &mut p.bytes, words.as_mut_ptr(), 8, &mut count) };
+                    hide((&mut words, count));
                 }
                 hide(&mut p);
             }
@@ -72,6 +75,7 @@ fn conversion(side: &str, what: &str, n: u64) {
     r.0[5].set(0x1234);
     r.0[6].set(0x1200);
     let xs = inputs(what);
+    let (mut word, mut value, mut system) = (0, 0.0, 0.0);
     for k in 0..n {
         let x = hide(xs[k as usize % 4]);
         match (side, what) {
@@ -82,13 +86,13 @@ fn conversion(side: &str, what: &str, n: u64) {
             ("original", "read-phase") => drop(hide(original::get_phase(&mut dds))),
             ("original", "read-amplitude") => drop(hide(original::get_amplitude(&mut dds))),
             ("original", "read-frequency") => drop(hide(original::get_frequency(&mut dds))),
-            ("port", "phase") => drop(hide(port::phase(x))),
-            ("port", "amplitude") => drop(hide(port::amplitude(x))),
-            ("port", "frequency") => drop(hide(port::frequency(ratio, x))),
-            ("port", "clock") => drop(hide(port::clock(x, hide(4)))),
-            ("port", "read-phase") => drop(hide(port::read_phase(hide(0x1234)))),
-            ("port", "read-amplitude") => drop(hide(port::read_amplitude(hide(0x1200)))),
-            ("port", "read-frequency") => drop(hide(port::read_frequency(ratio, hide(0x3333_3340)))),
+            ("port", "phase") => drop(hide((sys::ad9959_phase(x, &mut word, &mut value), word, value))),
+            ("port", "amplitude") => drop(hide((sys::ad9959_amplitude(x, &mut word, &mut value), word, value))),
+            ("port", "frequency") => drop(hide((sys::ad9959_frequency(ratio, x, &mut word, &mut value), word, value))),
+            ("port", "clock") => drop(hide((sys::ad9959_clock(x, hide(4), &mut system, &mut word, &mut value), system, word, value))),
+            ("port", "read-phase") => drop(hide((sys::ad9959_read_phase(hide(0x1234), &mut value), value))),
+            ("port", "read-amplitude") => drop(hide((sys::ad9959_read_amplitude(hide(0x1200), &mut value), value))),
+            ("port", "read-frequency") => drop(hide((sys::ad9959_read_frequency(ratio, hide(0x3333_3340), &mut value), value))),
             _ => (),
         }
     }
