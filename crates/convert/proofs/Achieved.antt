@@ -18,7 +18,7 @@ use lib.Ieee.Bits.{is-true}
 use Rattle.registers.specs.Answers.{Bounds}
 use Rattle.registers.specs.Registers.{widthOf}
 use Rattle.registers.specs.Fields.{fieldOf}
-use Rattle.registers.specs.Acr.{asf, multiplier, acrOf}
+use Rattle.bitfields.specs.Acr.{asf, multiplier, acrOf}
 use Rattle.binary32.specs.Floats.{whole, _over_, within}
 use Rattle.convert.specs.declared.Setting.{Setting}
 use Rattle.convert.specs.Results.{refused, set, read}

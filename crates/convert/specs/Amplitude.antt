@@ -9,7 +9,7 @@ use Rattle.convert.specs.Results.{refused, set, unread, read}
 use Rattle.registers.specs.Answers.{Bounds, Word}
 use Rattle.registers.specs.Registers.{ACR, holds}
 use Rattle.registers.specs.Fields.{fieldOf}
-use Rattle.registers.specs.Acr.{asf, multiplier, acrOf}
+use Rattle.bitfields.specs.Acr.{asf, multiplier, acrOf}
 use Rattle.binary32.specs.Floats.{whole, _times_, _over_, within}
 
 -- amplitude times 1024, cut

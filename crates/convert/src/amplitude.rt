@@ -3,7 +3,7 @@ ghost use mathlib.Core.Path.{_≡_};
 ghost use Rattle.convert.specs.Amplitude.{asfOf, meaning, settingOf, readingOf};
 use crate::Reading;
 use crate::Setting;
-use registers::acr;
+use bitfields::acr;
 use registers::address;
 use registers::answer;
 use registers::field;

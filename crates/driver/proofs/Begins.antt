@@ -19,7 +19,7 @@ use lib.Ieee.Casts.{toUnsigned-lt}
 use Rattle.registers.proofs.Choice.{by}
 use Rattle.registers.specs.Answers.{Ok, Mask, Mode, NotReady, Word}
 use Rattle.registers.specs.Registers.{CFTW0, CPOW0, ACR, widthOf, holds}
-use Rattle.registers.specs.Csr.{csrOf}
+use Rattle.bitfields.specs.Csr.{csrOf}
 use Rattle.bus.specs.declared.Reply.{Reply}
 use Rattle.bus.proofs.Runs.{good}
 use Rattle.convert.specs.declared.Driver.{Driver}

@@ -18,7 +18,7 @@ use Rattle.registers.proofs.Choice.{by}
 use Rattle.registers.specs.declared.answer.Answer.{Answer}
 use Rattle.registers.specs.Answers.{Ok, Over}
 use Rattle.registers.specs.Registers.{CSR}
-use Rattle.registers.specs.Csr.{byteOf, csrOf}
+use Rattle.bitfields.specs.Csr.{byteOf, csrOf}
 use Rattle.bus.specs.declared.Action.{Action}
 use Rattle.bus.specs.declared.Action.the-variants.{Nothing, Write}
 use Rattle.bus.specs.declared.Reply.{Reply}

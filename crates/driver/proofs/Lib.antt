@@ -1,6 +1,4 @@
-pub mod Startups
 pub mod Channels
 pub mod Transfers
 pub mod Begins
 pub mod RegisterReads
-pub mod SelfTests

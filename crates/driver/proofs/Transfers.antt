@@ -22,7 +22,7 @@ use lib.Seq.{getD-set-other}
 use Rattle.registers.proofs.Choice.{by}
 use Rattle.registers.specs.Answers.{Ok, Interface, Word}
 use Rattle.registers.specs.Registers.{CSR, holds}
-use Rattle.registers.specs.Csr.{byteOf}
+use Rattle.bitfields.specs.Csr.{byteOf}
 use Rattle.bus.specs.declared.Action.{Action}
 use Rattle.bus.specs.declared.Action.the-variants.{Write}
 use Rattle.bus.specs.declared.Reply.{Reply}

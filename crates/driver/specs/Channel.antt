@@ -6,7 +6,7 @@ use lib.Dec.{ltb, eqb}
 use lib.Ieee.{Float}
 use Rattle.registers.specs.Answers.{Ok, NotReady}
 use Rattle.registers.specs.Registers.{CSR, CFTW0, CPOW0, ACR, holds}
-use Rattle.registers.specs.Csr.{byteOf, csrOf}
+use Rattle.bitfields.specs.Csr.{byteOf, csrOf}
 use Rattle.binary32.specs.Floats.{whole}
 use Rattle.convert.specs.declared.Driver.{Driver}
 use Rattle.convert.specs.declared.Setting.{Setting}

@@ -1,5 +1,3 @@
 pub mod Driver
-pub mod Startup
 pub mod Channel
 pub mod Register
-pub mod SelfTest

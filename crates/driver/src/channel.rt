@@ -1,6 +1,7 @@
 // Channel settings and readings: CSR written, then the register written or read.
 ghost use mathlib.Core.Path.{_≡_};
 ghost use Rattle.driver.specs.Channel.{beginOf, setFrequency, setPhase, setAmplitude, getFrequency, getPhase, getAmplitude, own, takes, legal, entry, actionOf, wordOf, meaningOf, at, replied, replyOf};
+use bitfields::csr;
 use bus::Action;
 use bus::Reply;
 use convert::Driver;
@@ -9,7 +10,6 @@ use convert::frequency;
 use convert::phase;
 use registers::address;
 use registers::answer;
-use registers::csr;
 
 // What is done with the register: a word written to it, or its word read.
 pub enum Access {

@@ -1,4 +1,4 @@
-// The driver's bus sequences: each is a record that hands out one action, takes one reply, and goes on.
+// What a driver that is up does: settings and readings, register reads, and freezing.
 ghost use mathlib.Core.Path.{_≡_};
 ghost use Rattle.driver.specs.Driver.{freezeOf};
 use convert::Driver;
@@ -7,8 +7,6 @@ use registers::answer::Answer;
 
 pub mod channel;
 pub mod register;
-pub mod self_test;
-pub mod startup;
 
 // The mode, for profiles that are streamed to the chip.
 pub fn freeze(driver: Driver) -> Answer

@@ -2,16 +2,16 @@
 use mathlib.Core.Bool.{cond}
 use Rattle.bus.specs.declared.Action.{Action}
 use Rattle.bus.specs.declared.Reply.{Reply}
-use Rattle.driver.specs.Startup as startup
+use Rattle.startup.specs.Startup as startup
 use Rattle.driver.specs.Channel as channel
 use Rattle.driver.specs.Register as register
-use Rattle.driver.specs.SelfTest as self-test
-use Rattle.driver.specs.declared.startup.Started.{Started}
-use Rattle.driver.specs.declared.startup.Made.{Made}
-use Rattle.driver.specs.declared.startup.Made.the-variants as made
+use Rattle.self_test.specs.SelfTest as self-test
+use Rattle.startup.specs.declared.Started.{Started}
+use Rattle.startup.specs.declared.Made.{Made}
+use Rattle.startup.specs.declared.Made.the-variants as made
 use Rattle.driver.specs.declared.channel.Transferred.{Transferred}
 use Rattle.driver.specs.declared.register.Found.{Found}
-use Rattle.driver.specs.declared.self_test.Tested.{Tested}
+use Rattle.self_test.specs.declared.Tested.{Tested}
 use Rattle.host.specs.declared.Sequence.{Sequence}
 use Rattle.host.specs.declared.Sequence.the-variants.{Startup, Transfer, Register, SelfTest}
 use Rattle.host.specs.declared.Outcome.{Outcome}

@@ -10,13 +10,11 @@ use driver::channel::Transferred;
 use driver::register;
 use driver::register::Found;
 use driver::register::Register;
-use driver::self_test;
-use driver::self_test::SelfTest;
-use driver::self_test::Tested;
-use driver::startup;
-use driver::startup::Made;
-use driver::startup::Started;
-use driver::startup::Startup;
+use self_test::SelfTest;
+use self_test::Tested;
+use startup::Made;
+use startup::Started;
+use startup::Startup;
 
 pub enum Sequence {
     Startup(Startup),

@@ -18,7 +18,7 @@ use lib.ListN.{length, getD, set, drop, length-set}
 use lib.Seq.{getD-set-other, getD-set-same}
 use Rattle.registers.proofs.Choice.{by}
 use Rattle.registers.specs.Registers.{Write, wrote}
-use Rattle.registers.specs.Csr.{byteOf}
+use Rattle.bitfields.specs.Csr.{byteOf}
 use Rattle.registers.specs.Answers.{Ok}
 use Rattle.stream.specs.declared.Step.{Step}
 use Rattle.stream.specs.declared.Step.the-variants.{One, Fault, End}

@@ -6,7 +6,7 @@ use mathlib.Core.List.{List, [], _∷_}
 use lib.Dec.{ltb, eqb}
 use lib.ListN.{getD, set}
 use Rattle.registers.specs.Registers.{Write, CSR}
-use Rattle.registers.specs.Csr.{byteOf}
+use Rattle.bitfields.specs.Csr.{byteOf}
 
 -- a mask's bit i is channel i
 abbrev pub selects : ℕ → ℕ → Bool

@@ -4,7 +4,7 @@ use mathlib.Core.Path.{_≡_}
 use mathlib.Core.List.{List}
 use lib.ListN.{length, drop}
 use Rattle.registers.specs.Registers.{CPOW0, ACR, widthOf}
-use Rattle.registers.specs.Csr.{byteOf}
+use Rattle.bitfields.specs.Csr.{byteOf}
 use Rattle.registers.specs.Bytes.{laid}
 use Rattle.profile.specs.declared.ProfileSerializer.{ProfileSerializer}
 use Rattle.profile.specs.declared.Tuning.{Tuning}

@@ -6,7 +6,7 @@ use lib.Dec.{eqb, ltb}
 use lib.IntN.{ℤ, pos, negsuc}
 use Rattle.registers.specs.Answers.{Ok, Mask, Mode, Word, Room}
 use Rattle.registers.specs.Registers.{Write, wrote, CSR, CFTW0, CPOW0, ACR, LSRR}
-use Rattle.registers.specs.Csr.{byteOf}
+use Rattle.bitfields.specs.Csr.{byteOf}
 use Rattle.profile.specs.declared.Tuning.{Tuning}
 use Rattle.profile.specs.declared.Tuning.the-variants.{Tune, Keep}
 use Rattle.profile.specs.declared.Value.{Value}

@@ -2,7 +2,7 @@
 ghost use mathlib.Core.Path.{_≡_};
 ghost use Prim.Native.Nat.{_+_, _*_, _≤_};
 ghost use Rattle.registers.specs.Registers.{CFTW0};
-ghost use Rattle.profile.specs.Rules.{wordOf, cost, above, padding, quarter};
+ghost use Rattle.profile.specs.Rules.{wordOf, cost, pushSize, above, padding, quarter};
 ghost use Rattle.profile.specs.Lent.{Held, PushJudged, FinalizeJudged};
 use crate::Tuning;
 use crate::Value;
@@ -24,6 +24,13 @@ fn cost(value: Value, size: usize) -> usize
         Value::Given(_v) => size,
         Value::Absent => 0,
     }
+}
+
+// How many bytes a push takes.
+pub(crate) fn size(word: Value, phase: Value, acr: Value) -> usize
+    ensures { λ r. ⌜ (r ≡ pushSize word phase acr) × (r ≤ 14) ⌝ }
+{
+    2 + cost(word, 5) + cost(phase, 3) + cost(acr, 4)
 }
 
 fn above(most: u32, value: Value) -> bool
@@ -58,7 +65,7 @@ pub(crate) fn push(
     if above(16777215, acr) {
         return answer::WORD;
     }
-    let size = 2 + cost(word, 5) + cost(phase, 3) + cost(acr, 4);
+    let size = size(word, phase, acr);
     if 32 - size < length {
         return answer::ROOM;
     }

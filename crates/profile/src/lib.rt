@@ -1,6 +1,6 @@
 // The profile serializer: register writes collected in 32 bytes, to be sent as words.
 ghost use mathlib.Core.Path.{_≡_};
-ghost use Rattle.profile.specs.Rules.{bitsOf, signedOf};
+ghost use Rattle.profile.specs.Rules.{bitsOf, signedOf, wordOf, pushSize};
 ghost use Rattle.profile.specs.Serializer.{newOf, pushOf, Finalizes, FeedsFrom};
 use registers::answer;
 
@@ -86,6 +86,13 @@ pub fn new(mode: u32) -> Stepped
             bytes: [0; 32],
         },
     }
+}
+
+// How many bytes a push takes.
+pub fn size(tuning: Tuning, phase: Value, acr: Value) -> usize
+    ensures { λ r. ⌜ r ≡ pushSize (wordOf tuning) phase acr ⌝ }
+{
+    judge::size(judge::word(tuning), phase, acr)
 }
 
 // Adds the writes that set a number of channels: CSR, then what is given.

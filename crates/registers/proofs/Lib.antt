@@ -2,6 +2,5 @@ pub mod Table
 pub mod Widths
 pub mod Fields
 pub mod Bytes
-pub mod Clock
 pub mod Laid
 pub mod Choice

@@ -2,13 +2,10 @@
 ghost use Prim.Native.Nat.{_^_, _<_, _≤_};
 ghost use mathlib.Core.Path.{_≡_};
 
-pub mod acr;
 pub mod address;
 pub mod answer;
 pub mod big_endian;
-pub mod csr;
 pub mod field;
-pub mod fr1;
 
 // 2^k.
 fn power(k: u32) -> u64

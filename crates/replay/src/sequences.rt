@@ -8,8 +8,6 @@ use convert::Driver;
 use convert::clock;
 use driver::channel;
 use driver::register;
-use driver::self_test;
-use driver::startup;
 use host::Outcome;
 use host::Sequence;
 use registers::address;

@@ -14,7 +14,7 @@ use lib.Seq.{getD-set-other}
 use Rattle.registers.proofs.Choice.{by}
 use Rattle.registers.specs.Answers.{Ok}
 use Rattle.registers.specs.Registers.{CSR, CFTW0, CPOW0, ACR, LSRR}
-use Rattle.registers.specs.Csr.{byteOf}
+use Rattle.bitfields.specs.Csr.{byteOf}
 use Rattle.image.specs.Image.{reaches, give, selected, select}
 use Rattle.image.proofs.Images.{nor, apart, misses, give-stays}
 use Rattle.profile.specs.declared.Value.{Value}

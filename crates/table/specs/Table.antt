@@ -7,7 +7,7 @@ use lib.Dec.{eqb}
 use lib.IntN.{pos, negsuc}
 use lib.Ieee.{Float, binary32, ofBits}
 use Rattle.registers.specs.Answers.{Ok, Bounds, Room}
-use Rattle.registers.specs.Fr1.{withClock}
+use Rattle.bitfields.specs.Fr1.{withClock}
 use Rattle.binary32.specs.Floats.{whole}
 use Rattle.convert.specs.Phase as phase
 use Rattle.convert.specs.Amplitude as amplitude

@@ -3,7 +3,6 @@ use crate::chip::Fault;
 use crate::run::each;
 use crate::run::titled;
 use driver::register;
-use driver::self_test;
 use host::Sequence;
 
 pub fn registers(fault: Fault, shown: usize) {

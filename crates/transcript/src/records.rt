@@ -9,10 +9,10 @@ use crate::startups::title;
 use driver::channel::Access;
 use driver::channel::Transfer;
 use driver::register::Register;
-use driver::self_test::SelfTest;
-use driver::startup::Startup;
 use host::Sequence;
 use registers::address;
+use self_test::SelfTest;
+use startup::Startup;
 
 // On the multiplier 4; a CSR read in the first turn gives what mode 3 wants.
 fn startup(step: u32, mode: u32, reference: f32, fr1: u32) {

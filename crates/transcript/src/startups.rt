@@ -5,10 +5,9 @@ use crate::run::play;
 use crate::say;
 use crate::show;
 use convert::Driver;
-use driver::startup;
-use driver::startup::Begun;
 use host::Outcome;
 use host::Sequence;
+use startup::Begun;
 
 // A start-up of a mode, on a reference and a multiplier.
 pub fn title(mode: u32, reference: f32, multiplier: u32) {

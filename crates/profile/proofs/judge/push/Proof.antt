@@ -46,7 +46,7 @@ returns-4 c =
 returns-5 : tie.Need-returns-5
 unfolding pushNumber
 returns-5 c =
-    let f = c .before .before .before .before in
+    let f = c .before .before in
     let e = f .before .before in
     let a = e .before .before .before .before .args in
     let n = a .length + pushSize (a .word) (a .phase) (a .acr) in
@@ -56,7 +56,7 @@ returns-5 c =
 returns-6 : tie.Need-returns-6
 unfolding pushNumber
 returns-6 c =
-    let f = c .before .before .before .before .before in
+    let f = c .before .before .before in
     let e = f .before .before in
     let a = e .before .before .before .before .args in
     let n = a .length + pushSize (a .word) (a .phase) (a .acr) in
@@ -66,7 +66,7 @@ returns-6 c =
 returns-7 : tie.Need-returns-7
 unfolding pushNumber widthOf
 returns-7 c =
-    let f = c .before .before .before .before .before in
+    let f = c .before .before .before in
     let e = f .before .before in
     let a = e .before .before .before .before .args in
     let n = a .length + pushSize (a .word) (a .phase) (a .acr) in
@@ -77,4 +77,4 @@ returns-7 c =
     }
 
 pub push-spec : {M : Type 1} → statement M
-push-spec = tie.close (tie.spec returns returns-2 (λ c κs. search needs) returns-3 (λ c κs. search needs) returns-4 (λ c κs. search needs) (λ c. search needs) (λ c κs. search needs) (λ c. search needs) (λ c κs. search needs) (λ c. search needs) (λ c. search needs) returns-5 (λ c. search needs) returns-6 returns-7)
+push-spec = tie.close (tie.spec returns returns-2 (λ c κs. search needs) returns-3 (λ c κs. search needs) returns-4 (λ c κs. search needs) (λ c. search needs) returns-5 (λ c. search needs) returns-6 returns-7)

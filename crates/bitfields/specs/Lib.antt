@@ -1,0 +1,3 @@
+pub mod Csr
+pub mod Fr1
+pub mod Acr

@@ -1,0 +1,6 @@
+pub mod Seeks
+pub mod Scans
+pub mod Sames
+pub mod Adds
+pub mod Looks
+pub mod Rows
