@@ -11,7 +11,7 @@ use Rattle.profile.specs.declared.Value.{Value}
 use Rattle.profile.specs.declared.Value.the-variants.{Given, Absent}
 use Rattle.notation.specs.Numbers.{digitOf, scanOf, magnitudeOf, numberOf}
 use Rattle.notation.specs.Words.{leftOf, seekOf, nextOf, sameOf}
-use Rattle.notation.specs.Lines.{valueOf, aloneOf, modeOf, namedOf, addOf, fieldsOf, pushOf, lineOf}
+use Rattle.notation.specs.Lines.{valueOf, aloneOf, modeOf, namedOf, addOf, fieldsOf, pushOf, stepOf, lineOf}
 use Rattle.notation.specs.declared.Reason.{Reason}
 use Rattle.notation.specs.declared.Reason.the-variants.{Step, Missing, Digits, Large, Negative, Field, Twice, More}
 use Rattle.notation.specs.declared.Line.{Line}
@@ -55,5 +55,5 @@ Right [] = Unit {0}
 Right (r ∷ rs) = (lineOf (ascii (r .text)) ≡ r .says) × Right rs
 
 pub rows : Right table
-unfolding digitOf scanOf magnitudeOf numberOf leftOf seekOf nextOf sameOf valueOf aloneOf modeOf namedOf addOf fieldsOf pushOf lineOf
+unfolding digitOf scanOf magnitudeOf numberOf leftOf seekOf nextOf sameOf valueOf aloneOf modeOf namedOf addOf fieldsOf pushOf stepOf lineOf
 rows = (refl, (refl, (refl, (refl, (refl, (refl, (refl, (refl, (refl, (refl, (refl, (refl, (refl, (refl, (refl, tt)))))))))))))))

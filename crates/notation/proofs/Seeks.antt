@@ -1,6 +1,6 @@
 -- A search through a line, byte by byte.
 --     at-blank, at-mark, at-other   where it stops
---     left-stop, left-step, left-end   what is left where it stops, behind a byte where it does not, and at the end
+--     seek-stop, left-step, seek-end   a byte where it stops, one where it does not, and the line's end
 use Prim.Native.Nat.{ℕ, _+_, _-_, _<_, _≤_}
 use mathlib.Core.Path.{_≡_}
 use mathlib.Core.Logic.{_⊎_, inl, inr}
@@ -11,23 +11,31 @@ use native.Mathlib.Numerals.{add-one}
 use lib.ListN.{length, getD, drop, length-drop, drop-of-length-le}
 use lib.Seq.{drop-cons}
 use borrow.Author.Tests.{ne-eqb}
-use Rattle.notation.specs.Words.{stops, leftOf}
+use Rattle.notation.specs.Words.{blank, stops, leftOf}
 
-pub at-blank : (inside : Bool) (b : ℕ) → (b ≡ 9) ⊎ ((b ≡ 13) ⊎ (b ≡ 32)) → inside ≡ stops inside b
-at-blank true b (inl e) = rw e
-at-blank true b (inr (inl e)) = rw e
-at-blank true b (inr (inr e)) = rw e
-at-blank false b (inl e) = rw e
-at-blank false b (inr (inl e)) = rw e
-at-blank false b (inr (inr e)) = rw e
+-- one of the bytes in an arm of `stops`
+abbrev Blank : ℕ → Type 0
+Blank b = (b ≡ 9) ⊎ ((b ≡ 13) ⊎ (b ≡ 32))
+
+is-blank : (b : ℕ) → Blank b → blank b ≡ true
+is-blank b (inl e) = rw e
+is-blank b (inr (inl e)) = rw e
+is-blank b (inr (inr e)) = rw e
+
+no-blank : (b : ℕ) → (Blank b → ⊥) → blank b ≡ false
+no-blank b h = simp (ne-eqb b 9 (λ e. h (inl e)), ne-eqb b 13 (λ e. h (inr (inl e))), ne-eqb b 32 (λ e. h (inr (inr e))))
+
+pub at-blank : (inside : Bool) (b : ℕ) → Blank b → inside ≡ stops inside b
+at-blank true b h = simp (is-blank b h)
+at-blank false b h = simp (is-blank b h)
 
 pub at-mark : (inside : Bool) (b : ℕ) → b ≡ 35 → true ≡ stops inside b
 at-mark true b e = rw e
 at-mark false b e = rw e
 
-pub at-other : (inside : Bool) (b : ℕ) → ((b ≡ 9) ⊎ ((b ≡ 13) ⊎ (b ≡ 32)) → ⊥) → (b ≡ 35 → ⊥) → not inside ≡ stops inside b
-at-other true b h k = simp (ne-eqb b 9 (λ e. h (inl e)), ne-eqb b 13 (λ e. h (inr (inl e))), ne-eqb b 32 (λ e. h (inr (inr e))), ne-eqb b 35 k)
-at-other false b h k = simp (ne-eqb b 9 (λ e. h (inl e)), ne-eqb b 13 (λ e. h (inr (inl e))), ne-eqb b 32 (λ e. h (inr (inr e))))
+pub at-other : (inside : Bool) (b : ℕ) → (Blank b → ⊥) → (b ≡ 35 → ⊥) → not inside ≡ stops inside b
+at-other true b h k = simp (no-blank b h, ne-eqb b 35 k)
+at-other false b h k = simp (no-blank b h)
 
 module _ (inside : Bool) (l : List ℕ) (i : ℕ) where
   left-stop : i < length l → stops inside (getD l i 0) ≡ true → leftOf inside (drop i l) ≡ drop i l

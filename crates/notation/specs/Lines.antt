@@ -56,19 +56,13 @@ modeOf l at = modeBy l (valueOf l at false)
 
 -- ---- the fields of a push
 
--- a field by its name
+-- a field by its name, and whether its number may have a minus sign
 unfoldable pub namedOf : List ℕ → Found
 namedOf w =
-    cond (sameOf w (ascii "word")) (Is Word)
-    (cond (sameOf w (ascii "phase")) (Is Phase)
-    (cond (sameOf w (ascii "acr")) (Is Acr)
+    cond (sameOf w (ascii "word")) (Is Word true)
+    (cond (sameOf w (ascii "phase")) (Is Phase false)
+    (cond (sameOf w (ascii "acr")) (Is Acr false)
     Nothing))
-
--- whether a field's number may have a minus sign
-abbrev pub signOf : Field → Bool
-signOf Word = true
-signOf Phase = false
-signOf Acr = false
 
 -- whether a tuning word is given
 abbrev pub tuned : Tuning → Bool
@@ -99,7 +93,7 @@ withBy p f (got.Bad x) = Bad x
 
 -- a field that is known must not be there already; its number stands behind its name
 abbrev pub addBy : List ℕ → Push → Span → Found → Taken
-addBy l p s (Is f) = cond (hasOf p f) (Bad (badAt reason.Twice s)) (withBy p f (valueOf l (s .end) (signOf f)))
+addBy l p s (Is f signed) = cond (hasOf p f) (Bad (badAt reason.Twice s)) (withBy p f (valueOf l (s .end) signed))
 addBy l p s Nothing = Bad (badAt reason.Field s)
 
 -- a push with the field that a part of the line names
@@ -127,13 +121,15 @@ pushOf l at = pushBy l (valueOf l at false)
 
 -- ---- lines
 
--- what a line says, by its first word, or why it cannot be read
+-- a step by its name, which is a part of the line
+unfoldable pub stepOf : List ℕ → Span → List ℕ → Line
+stepOf l s w =
+    cond (sameOf w (ascii "push")) (pushOf l (s .end))
+    (cond (sameOf w (ascii "mode")) (modeOf l (s .end))
+    (cond (sameOf w (ascii "finalize")) (aloneOf l (s .end) line.Finalize)
+    (cond (sameOf w (ascii "show")) (aloneOf l (s .end) line.Show)
+    (line.Unread (badAt reason.Step s)))))
+
+-- what a line says, or why it cannot be read
 unfoldable pub lineOf : List ℕ → Line
-lineOf l =
-    let s = nextOf l 0 in
-    cond (none s) line.Blank
-    (cond (sameOf (part l s) (ascii "push")) (pushOf l (s .end))
-    (cond (sameOf (part l s) (ascii "mode")) (modeOf l (s .end))
-    (cond (sameOf (part l s) (ascii "finalize")) (aloneOf l (s .end) line.Finalize)
-    (cond (sameOf (part l s) (ascii "show")) (aloneOf l (s .end) line.Show)
-    (line.Unread (badAt reason.Step s))))))
+lineOf l = let s = nextOf l 0 in cond (none s) line.Blank (stepOf l s (part l s))

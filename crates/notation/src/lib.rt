@@ -2,7 +2,7 @@
 ghost use Prim.Native.Nat.{_≤_};
 ghost use mathlib.Core.Path.{_≡_};
 ghost use lib.ListN.{length};
-ghost use Rattle.notation.specs.Lines.{badAt, valueOf, aloneOf, modeOf, namedOf, signOf, hasOf, withOf};
+ghost use Rattle.notation.specs.Lines.{badAt, valueOf, aloneOf, modeOf, namedOf, hasOf, withOf};
 ghost use Rattle.notation.specs.Lines.{addOf, fieldsOf, pushOf, lineOf};
 use digits::Number;
 use profile::Tuning;
@@ -62,9 +62,9 @@ enum Field {
     Acr,
 }
 
-// The field that a word names, if it names one.
+// The field that a word names, if it names one, and whether the field's number may have a sign.
 enum Found {
-    Is(Field),
+    Is(Field, bool),
     Nothing,
 }
 
@@ -119,31 +119,20 @@ fn read_mode(line: &[u8], at: usize) -> Line
     }
 }
 
-// The field with a name.
+// The field with a name: only a word may be negative.
 fn named(text: &[u8]) -> Found
     ensures { λ r. ⌜ r ≡ namedOf (now (text .entry)) ⌝ }
 {
     if check::same(text, b"word") {
-        return Found::Is(Field::Word);
+        return Found::Is(Field::Word, true);
     }
     if check::same(text, b"phase") {
-        return Found::Is(Field::Phase);
+        return Found::Is(Field::Phase, false);
     }
     if check::same(text, b"acr") {
-        return Found::Is(Field::Acr);
+        return Found::Is(Field::Acr, false);
     }
     Found::Nothing
-}
-
-// Whether a field's number may have a minus sign.
-fn takes_sign(field: Field) -> bool
-    ensures { λ r. ⌜ r ≡ signOf field ⌝ }
-{
-    match field {
-        Field::Word => true,
-        Field::Phase => false,
-        Field::Acr => false,
-    }
 }
 
 // Whether a push has a field already.
@@ -207,11 +196,11 @@ fn add(line: &[u8], push: Push, s: Span) -> Taken
     let start = s.start;
     let end = s.end;
     match named(&line[start..end]) {
-        Found::Is(field) => {
+        Found::Is(field, signed) => {
             if has(push, field) {
                 return Taken::Bad(bad(Reason::Twice, s));
             }
-            match value(line, end, takes_sign(field)) {
+            match value(line, end, signed) {
                 Got::Bits(v, at) => Taken::More(with(push, field, v), at),
                 Got::Bad(f) => Taken::Bad(f),
             }

@@ -1,6 +1,8 @@
 // What a profile holds: its bytes, its words, its writes, and what the channels' registers end as.
 ghost use Prim.Native.Nat.{_≤_};
 use crate::say;
+use bitfields::acr;
+use bitfields::csr;
 use profile::ProfileSerializer;
 use registers::address;
 
@@ -14,10 +16,11 @@ fn lamp(bits: u32, digit: u8) -> u8 {
 
 // The channels that a CSR selects.
 fn channels(csr: u32) {
-    let a = lamp(csr / 16, b'0');
-    let b = lamp(csr / 32, b'1');
-    let c = lamp(csr / 64, b'2');
-    let d = lamp(csr / 128, b'3');
+    let mask = csr::channel(csr).value;
+    let a = lamp(mask, b'0');
+    let b = lamp(mask / 2, b'1');
+    let c = lamp(mask / 4, b'2');
+    let d = lamp(mask / 8, b'3');
     say::text(&[a, b' ', b, b' ', c, b' ', d, b' ', b' ']);
 }
 
@@ -34,8 +37,8 @@ fn head(at: u64, address: u32, value: u32) {
 }
 
 fn amplitude(acr: u32) {
-    let asf = (acr % 1024) as u64;
-    if acr / 4096 % 2 == 0 {
+    let asf = acr::asf(acr).value as u64;
+    if acr::multiplier(acr).value == 0 {
         say::text(b"full amplitude, multiplier off");
         return;
     }
@@ -47,7 +50,11 @@ fn amplitude(acr: u32) {
 fn meaning(address: u32, value: u32) {
     let v = value as u64;
     match address {
-        address::CSR => say::form(b"mask %d, mode %d", &[v / 16, v / 2 % 4]),
+        address::CSR => {
+            let mask = csr::channel(value).value as u64;
+            let mode = csr::mode(value).value as u64;
+            say::form(b"mask %d, mode %d", &[mask, mode]);
+        }
         address::CFTW0 => {
             let billionths = v * 1000000000;
             let next = (billionths % 4294967296 * 10 + 2147483648) / 4294967296;
