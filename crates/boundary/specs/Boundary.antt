@@ -3,10 +3,10 @@ use Prim.Native.Nat.{ℕ, _/_, _%_}
 use mathlib.Core.Bool.{cond}
 use lib.Dec.{ltb, eqb}
 use lib.IntN.{ℤ}
-use Rattle.profile.specs.declared.Tuning.{Tuning}
-use Rattle.profile.specs.declared.Tuning.the-variants.{Tune, Keep}
-use Rattle.profile.specs.declared.Value.{Value}
-use Rattle.profile.specs.declared.Value.the-variants.{Given, Absent}
+use Rattle.rules.specs.declared.Tuning.{Tuning}
+use Rattle.rules.specs.declared.Tuning.the-variants.{Tune, Keep}
+use Rattle.rules.specs.declared.Value.{Value}
+use Rattle.rules.specs.declared.Value.the-variants.{Given, Absent}
 
 -- bit 0 of presence: the tuning word is given
 abbrev pub tuningAt : ℕ → ℤ → Tuning

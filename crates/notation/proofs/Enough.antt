@@ -3,12 +3,12 @@
 --     enough   so a fourth look finds the end or a fault
 use Prim.Native.Nat.{ℕ, zero, suc, _+_, _≤_, _<_}
 use mathlib.Core.Path.{_≡_, refl, ap}
-use mathlib.Core.Bool.{true, false, cond}
+use mathlib.Core.Bool.{false, cond}
 use mathlib.Core.List.{List}
 use native.Mathlib.Omega.{arith}
 use Rattle.registers.proofs.Choice.{by}
-use Rattle.profile.specs.declared.Tuning.the-variants.{Keep}
-use Rattle.profile.specs.declared.Value.the-variants.{Absent}
+use Rattle.rules.specs.declared.Tuning.the-variants.{Keep}
+use Rattle.rules.specs.declared.Value.the-variants.{Absent}
 use Rattle.notation.specs.Words.{nextOf, part, none}
 use Rattle.notation.specs.Lines.{valueOf, namedOf, tuned, given, hasOf, withBy, addBy, addOf, moreBy, fieldsOf}
 use Rattle.notation.specs.declared.words.Span.{Span}

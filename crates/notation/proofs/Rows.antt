@@ -5,10 +5,10 @@ use mathlib.Core.Path.{_≡_, refl}
 use mathlib.Core.List.{List, [], _∷_}
 use lib.IntN.{pos, negsuc}
 use Rattle.registers.specs.Answers.{ascii}
-use Rattle.profile.specs.declared.Tuning.{Tuning}
-use Rattle.profile.specs.declared.Tuning.the-variants.{Tune, Keep}
-use Rattle.profile.specs.declared.Value.{Value}
-use Rattle.profile.specs.declared.Value.the-variants.{Given, Absent}
+use Rattle.rules.specs.declared.Tuning.{Tuning}
+use Rattle.rules.specs.declared.Tuning.the-variants.{Tune, Keep}
+use Rattle.rules.specs.declared.Value.{Value}
+use Rattle.rules.specs.declared.Value.the-variants.{Given, Absent}
 use Rattle.notation.specs.Numbers.{digitOf, scanOf, magnitudeOf, numberOf}
 use Rattle.notation.specs.Words.{leftOf, seekOf, nextOf, sameOf}
 use Rattle.notation.specs.Lines.{valueOf, aloneOf, modeOf, namedOf, addOf, fieldsOf, pushOf, stepOf, lineOf}

@@ -3,11 +3,11 @@ use Prim.Native.Nat.{ℕ, zero, suc}
 use mathlib.Core.Bool.{Bool, true, false, cond}
 use mathlib.Core.List.{List}
 use Rattle.registers.specs.Answers.{ascii}
-use Rattle.profile.specs.Rules.{signedOf}
-use Rattle.profile.specs.declared.Tuning.{Tuning}
-use Rattle.profile.specs.declared.Tuning.the-variants.{Tune, Keep}
-use Rattle.profile.specs.declared.Value.{Value}
-use Rattle.profile.specs.declared.Value.the-variants.{Given, Absent}
+use Rattle.rules.specs.Rules.{signedOf}
+use Rattle.rules.specs.declared.Tuning.{Tuning}
+use Rattle.rules.specs.declared.Tuning.the-variants.{Tune, Keep}
+use Rattle.rules.specs.declared.Value.{Value}
+use Rattle.rules.specs.declared.Value.the-variants.{Given, Absent}
 use Rattle.notation.specs.Numbers.{numberOf}
 use Rattle.notation.specs.Words.{nextOf, part, none, sameOf}
 use Rattle.notation.specs.declared.digits.Number.{Number}

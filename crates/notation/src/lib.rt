@@ -5,8 +5,8 @@ ghost use lib.ListN.{length};
 ghost use Rattle.notation.specs.Lines.{badAt, valueOf, aloneOf, modeOf, namedOf, hasOf, withOf};
 ghost use Rattle.notation.specs.Lines.{addOf, fieldsOf, pushOf, lineOf};
 use digits::Number;
-use profile::Tuning;
-use profile::Value;
+use rules::Tuning;
+use rules::Value;
 use words::Span;
 
 mod digits;
@@ -169,7 +169,7 @@ fn with(push: Push, field: Field, v: u32) -> Push
     match field {
         Field::Word => Push {
             mask,
-            word: Tuning::Tune(profile::signed(v)),
+            word: Tuning::Tune(rules::signed(v)),
             phase,
             acr,
         },

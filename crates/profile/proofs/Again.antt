@@ -10,9 +10,9 @@ use Rattle.registers.specs.Answers.{Ok}
 use Rattle.registers.proofs.Laid.{laid-nil}
 use Rattle.stream.specs.Streams.{encode}
 use Rattle.profile.specs.declared.ProfileSerializer.{ProfileSerializer}
-use Rattle.profile.specs.Rules.{padding, paddingWrites, finalizeNumber}
+use Rattle.rules.specs.Rules.{padding, paddingWrites, finalizeNumber}
 use Rattle.profile.specs.Serializer.{padded, finalizedOf}
-use Rattle.profile.proofs.Sizes.{padded-quarters}
+use Rattle.rules.proofs.Lengths.{padded-quarters}
 
 whole : (n : ℕ) → (n + padding n) % 4 ≡ 0
 whole n = omega (arith, padded-quarters n)

@@ -50,14 +50,14 @@ use denote.Triple.Clauses.{Ended, Clauses, closing}
 use denote.Signature.{Slot, plain}
 use denote.Exit.{yes}
 use Rattle.profile.specs.declared.ProfileSerializer.{ProfileSerializer}
-use Rattle.profile.specs.declared.Tuning.{Tuning}
-use Rattle.profile.specs.declared.Value.{Value}
+use Rattle.rules.specs.declared.Tuning.{Tuning}
+use Rattle.rules.specs.declared.Value.{Value}
 use Rattle.profile.proofs.ProfileSerializer as T
 use Rattle.profile.proofs.ProfileSerializer.Laws as T′
-use Rattle.profile.proofs.Tuning as U
-use Rattle.profile.proofs.Tuning.Laws as U′
-use Rattle.profile.proofs.Value as Va
-use Rattle.profile.proofs.Value.Laws as Va′
+use Rattle.rules.proofs.Tuning as U
+use Rattle.rules.proofs.Tuning.Laws as U′
+use Rattle.rules.proofs.Value as Va
+use Rattle.rules.proofs.Value.Laws as Va′
 
 -- the function k, which is fn and calls g alone, meets its contract, from a walk over any table of calls in which g meets its own
 module _ {M : Type 1} (𝓤 : URA M) (H : Heap 𝓤) (𝓜 : Model 𝓤 H) (𝓖 : GhostRules 𝓤 H) (𝓡 : Running 𝓤 H 𝓜) (E : Ended) (hs : Stays (E .signature .params) (E .kept)) (c : Clauses 𝓤 E) where

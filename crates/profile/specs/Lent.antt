@@ -1,16 +1,14 @@
 -- A serializer whose length and bytes are lent: what a push and a finalising give and leave. Definitions only.
-use Prim.Native.Nat.{ℕ, zero, suc, _+_, _-_, _*_, _^_, _≤_, _<_}
+use Prim.Native.Nat.{ℕ, zero, suc, _+_, _-_, _*_}
 use mathlib.Core.Path.{_≡_}
 use mathlib.Core.List.{List}
 use lib.ListN.{length, drop}
-use Rattle.registers.specs.Registers.{CPOW0, ACR, widthOf}
 use Rattle.bitfields.specs.Csr.{byteOf}
 use Rattle.registers.specs.Bytes.{laid}
 use Rattle.profile.specs.declared.ProfileSerializer.{ProfileSerializer}
-use Rattle.profile.specs.declared.Tuning.{Tuning}
-use Rattle.profile.specs.declared.Value.{Value}
-use Rattle.profile.specs.declared.Value.the-variants.{Given, Absent}
-use Rattle.profile.specs.Rules.{pushSize, pushNumber, padding, quarter, finalizeNumber}
+use Rattle.rules.specs.declared.Tuning.{Tuning}
+use Rattle.rules.specs.declared.Value.{Value}
+use Rattle.rules.specs.declared.Value.the-variants.{Given, Absent}
 use Rattle.profile.specs.Serializer.{pushOf, Finalizes, wordsOf}
 
 abbrev pub held : ℕ → ℕ → List ℕ → ProfileSerializer
@@ -25,21 +23,6 @@ pub record Seals (mode length : ℕ) (bytes words : List ℕ) (number length′ 
   pub seals : Finalizes (held mode length bytes) words (record { number = number; count = count; serializer = held mode length′ bytes′ }) words′
 
 -- ---- for the code's own contracts
-
--- a value that its register holds
-abbrev pub Held : ℕ → Value → Type 0
-Held a (Given v) = v < 256 ^ widthOf a
-Held a Absent = Unit {0}
-
--- the number of a push, and what Ok tells
-pub record PushJudged (mode n mask : ℕ) (word phase acr : Value) (r : ℕ) : Type 0 where
-  pub number : r ≡ pushNumber mode n mask word phase acr
-  pub good : r ≡ 0 → (mode ≤ 3) × (mask ≤ 15) × Held CPOW0 phase × Held ACR acr × (n + pushSize word phase acr ≤ 32)
-
--- the number of a finalising, and what Ok tells
-pub record FinalizeJudged (mode n words r : ℕ) : Type 0 where
-  pub number : r ≡ finalizeNumber mode n words
-  pub good : r ≡ 0 → (mode ≤ 3) × (n + padding n ≤ 32) × (quarter n ≤ words)
 
 -- padding as values, by the length modulo 4
 abbrev pub lsrrBy : ℕ → Value

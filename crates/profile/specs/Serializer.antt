@@ -13,9 +13,9 @@ use Rattle.image.specs.Feed.{feedNumber, feedOf}
 use Rattle.profile.specs.declared.ProfileSerializer.{ProfileSerializer}
 use Rattle.profile.specs.declared.Stepped.{Stepped}
 use Rattle.profile.specs.declared.Finalized.{Finalized}
-use Rattle.profile.specs.declared.Tuning.{Tuning}
-use Rattle.profile.specs.declared.Value.{Value}
-use Rattle.profile.specs.Rules.{wordOf, pushSize, padding, quarter, pushNumber, finalizeNumber, pushWrites, paddingWrites}
+use Rattle.rules.specs.declared.Tuning.{Tuning}
+use Rattle.rules.specs.declared.Value.{Value}
+use Rattle.rules.specs.Rules.{wordOf, pushSize, padding, quarter, pushNumber, finalizeNumber, pushWrites, paddingWrites}
 
 -- new with length 0 and bytes 0; a mode above 3 is Mode, and all zero
 abbrev pub newOf : ℕ → Stepped

@@ -5,8 +5,9 @@ ghost use Prim.Native.Nat.{_+_, _<_, _≤_};
 ghost use lib.ListN.{length};
 ghost use Rattle.registers.specs.Registers.{wrote, CSR, CFTW0, CPOW0, ACR};
 ghost use Rattle.stream.specs.Streams.{encode};
-ghost use Rattle.profile.specs.Rules.{pushSize, padding, given, paddingWrites};
-ghost use Rattle.profile.specs.Lent.{Held, Puts, lsrrBy, csrBy};
+ghost use Rattle.rules.specs.Rules.{pushSize, padding, given, paddingWrites};
+ghost use Rattle.profile.specs.Lent.{Puts, lsrrBy, csrBy};
+ghost use Rattle.rules.specs.Judged.{Held};
 use crate::Value;
 use registers::address;
 

@@ -3,10 +3,10 @@ ghost use mathlib.Core.Path.{_≡_};
 ghost use Rattle.profile.specs.Lent.{Pushes, Seals};
 use crate::Tuning;
 use crate::Value;
-use crate::judge;
 use crate::lay;
 use crate::words;
 use registers::answer;
+use rules::judge;
 
 // Adds the writes that set a number of channels: CSR, then what is given.
 pub fn push(

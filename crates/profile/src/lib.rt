@@ -1,11 +1,14 @@
 // The profile serializer: register writes collected in 32 bytes, to be sent as words.
 ghost use mathlib.Core.Path.{_≡_};
-ghost use Rattle.profile.specs.Rules.{bitsOf, signedOf, wordOf, pushSize};
 ghost use Rattle.profile.specs.Serializer.{newOf, pushOf, Finalizes, FeedsFrom};
 use registers::answer;
+pub use rules::Tuning;
+pub use rules::Value;
+pub use rules::bits;
+pub use rules::signed;
+pub use rules::size;
 
 pub mod in_place;
-mod judge;
 mod lay;
 pub mod lent;
 mod words;
@@ -15,18 +18,6 @@ pub struct ProfileSerializer {
     pub mode: u32,
     pub length: usize,
     pub bytes: [u8; 32],
-}
-
-// A tuning word, if one is given.
-pub enum Tuning {
-    Tune(i32),
-    Keep,
-}
-
-// A phase word or an ACR, if one is given.
-pub enum Value {
-    Given(u32),
-    Absent,
 }
 
 // A number, and the serializer: as it was, where the number is a refusal.
@@ -40,28 +31,6 @@ pub struct Finalized {
     pub number: u32,
     pub count: usize,
     pub serializer: ProfileSerializer,
-}
-
-// A tuning word's bits, in two's complement.
-pub fn bits(z: i32) -> u32
-    ensures { λ r. ⌜ r ≡ bitsOf z ⌝ }
-{
-    if z < 0 {
-        4294967295 - ((-1 - z) as u32)
-    } else {
-        z as u32
-    }
-}
-
-// The tuning word that some bits are.
-pub fn signed(bits: u32) -> i32
-    ensures { λ r. ⌜ r ≡ signedOf bits ⌝ }
-{
-    if bits < 2147483648 {
-        return bits as i32;
-    }
-    let rest = 4294967295 - bits;
-    -1 - (rest as i32)
 }
 
 // A serializer for a mode.
@@ -86,13 +55,6 @@ pub fn new(mode: u32) -> Stepped
             bytes: [0; 32],
         },
     }
-}
-
-// How many bytes a push takes.
-pub fn size(tuning: Tuning, phase: Value, acr: Value) -> usize
-    ensures { λ r. ⌜ r ≡ pushSize (wordOf tuning) phase acr ⌝ }
-{
-    judge::size(judge::word(tuning), phase, acr)
 }
 
 // Adds the writes that set a number of channels: CSR, then what is given.

@@ -17,7 +17,7 @@ fn ended(st: State, line: &[u8]) -> State {
         return next;
     }
     if 200 < n {
-        return steps::too_long(next, &line[0..40]);
+        return steps::passed_over(next, &line[0..40], b"it has more than 200 bytes\n");
     }
     steps::play(next, &line[0..n])
 }
@@ -46,14 +46,6 @@ fn chunk(st: State, bytes: &[u8], line: &mut [u8]) -> State {
     state
 }
 
-// The last line may have no end.
-fn last(st: State, line: &[u8]) -> State {
-    if st.used == 0 {
-        return st;
-    }
-    ended(st, line)
-}
-
 // A script from its first byte to its last, each line answered as soon as it is there.
 fn run(fd: i32, name: &[u8]) {
     let mut line = [0u8; 201];
@@ -72,7 +64,11 @@ fn run(fd: i32, name: &[u8]) {
         state = chunk(state, &buffer[..n], &mut line);
         left = left - 1;
     }
-    steps::close(last(state, &line));
+    // the last line may have no end
+    if state.used != 0 {
+        state = ended(state, &line);
+    }
+    steps::close(state);
 }
 
 // A script in a file; `some` have been played before it.

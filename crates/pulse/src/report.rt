@@ -70,14 +70,6 @@ fn meaning(address: u32, value: u32) {
     }
 }
 
-// The CSR that a write leaves.
-fn selected(csr: u32, address: u32, value: u32) -> u32 {
-    if address == address::CSR {
-        return value;
-    }
-    csr
-}
-
 fn write(at: u64, address: u32, value: u32, csr: u32, padding: bool) {
     head(at, address, value);
     channels(csr);
@@ -117,7 +109,9 @@ fn writes(addresses: &[u32; 16], values: &[u32; 16], count: usize, padding: &[u8
         }
         let a = addresses[i];
         let v = values[i];
-        csr = selected(csr, a, v);
+        if a == address::CSR {
+            csr = v;
+        }
         write(at as u64, a, v, csr, marked(padding, at));
         at = at + 1 + width(a);
         i = i + 1;

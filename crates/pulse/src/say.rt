@@ -16,10 +16,6 @@ fn front(s: &[u8], n: usize) {
     }
 }
 
-fn blanks(n: usize) {
-    front(b"        ", n);
-}
-
 fn digit(d: u64) -> u8 {
     if d < 10 {
         return 48 + d as u8;
@@ -54,7 +50,7 @@ fn right(n: u64, width: usize) {
     let mut digits = [0u8; 20];
     let k = io::decimal(n, &mut digits);
     if k < width {
-        blanks(width - k);
+        front(b"    ", width - k);
     }
     text(&digits[..k]);
 }
@@ -126,7 +122,9 @@ fn shown(b: u8) -> u8 {
 }
 
 // A stranger's text as it is shown, and how long it is.
-fn safe(s: &[u8], out: &mut [u8]) -> usize {
+fn safe(s: &[u8], out: &mut [u8]) -> usize
+    ensures { λ r. ⌜ r ≤ length (now (out .exit)) ⌝ }
+{
     let mut i = 0;
     while i < s.len() {
         if out.len() <= i {
@@ -142,21 +140,15 @@ fn safe(s: &[u8], out: &mut [u8]) -> usize {
 pub fn plain(s: &[u8]) {
     let mut out = io::buffer();
     let n = safe(s, &mut out);
-    front(&out, n);
-}
-
-fn fail_with(s: &[u8], n: usize) {
-    if n <= s.len() {
-        io::write_all(STDERR_FILENO, b"pulse: ");
-        os::fail(&s[0..n]);
-    }
+    text(&out[0..n]);
 }
 
 // What a call that has just failed was about, and why it failed, on standard error.
 pub fn fail(what: &[u8]) {
     let mut out = io::buffer();
     let n = safe(what, &mut out);
-    fail_with(&out, n);
+    io::write_all(STDERR_FILENO, b"pulse: ");
+    os::fail(&out[0..n]);
 }
 
 // An answer's number and name, in seven columns where it is one of a step's.
@@ -167,6 +159,6 @@ pub fn answer(number: u32) {
     form(b"%d ", &[number as u64]);
     front(&bytes, length);
     if length < 5 {
-        blanks(5 - length);
+        front(b"     ", 5 - length);
     }
 }

@@ -77,7 +77,10 @@ fn mode(st: State, line: &[u8], mode: u32) -> State {
     let old = st.serializer;
     if new.number != answer::OK {
         told(st, line, new.number, old.length);
-        why::mode(mode);
+        say::form(
+            b"      %d is no mode: a mode is 0 to 3; nothing changed\n",
+            &[mode as u64],
+        );
         return refusal(st);
     }
     told(st, line, new.number, 0);
@@ -160,10 +163,10 @@ fn unread(st: State, line: &[u8], f: Fault) -> State {
     next
 }
 
-// A step before any mode.
-fn no_profile(st: State, line: &[u8]) -> State {
+// A line that is left out for a plain reason.
+pub fn passed_over(st: State, line: &[u8], reason: &[u8]) -> State {
     let next = left_out(st, line);
-    say::text(b"there is no profile yet: start with a line such as mode 3\n");
+    say::text(reason);
     next
 }
 
@@ -188,16 +191,13 @@ pub fn play(st: State, line: &[u8]) -> State {
             if st.open {
                 return step(st, line, what);
             }
-            no_profile(st, line)
+            passed_over(
+                st,
+                line,
+                b"there is no profile yet: start with a line such as mode 3\n",
+            )
         }
     }
-}
-
-// A line of more than 200 bytes, by its beginning.
-pub fn too_long(st: State, beginning: &[u8]) -> State {
-    let next = left_out(st, beginning);
-    say::text(b"it has more than 200 bytes\n");
-    next
 }
 
 // The end of a script.

@@ -6,13 +6,6 @@ use notation::Reason;
 use profile::Value;
 use registers::answer;
 
-pub fn mode(mode: u32) {
-    say::form(
-        b"      %d is no mode: a mode is 0 to 3; nothing changed\n",
-        &[mode as u64],
-    );
-}
-
 // A push finds no room behind so many bytes.
 fn room(length: usize, p: Push) {
     let word = p.word;
@@ -34,38 +27,24 @@ fn room(length: usize, p: Push) {
     }
 }
 
-// Whether a phase is too large, and says so.
-fn large_phase(v: Value) -> bool {
-    match v {
-        Value::Given(n) => {
-            if n <= 16383 {
-                return false;
-            }
+// A phase or an ACR is too large: the phase, where it is, and else the ACR.
+fn word(p: Push) {
+    let phase = p.phase;
+    let acr = p.acr;
+    if let Value::Given(n) = phase {
+        if 16383 < n {
             say::form(
                 b"      phase %d is too large: a phase is at most 16383 (0x3FFF)\n",
                 &[n as u64],
             );
-            true
+            return;
         }
-        Value::Absent => false,
     }
-}
-
-fn large_acr(v: Value) {
-    match v {
-        Value::Given(n) => say::form(
+    if let Value::Given(n) = acr {
+        say::form(
             b"      acr %d is too large: an acr is at most 16777215 (0xFFFFFF)\n",
             &[n as u64],
-        ),
-        Value::Absent => (),
-    }
-}
-
-fn word(p: Push) {
-    let phase = p.phase;
-    let acr = p.acr;
-    if !large_phase(phase) {
-        large_acr(acr);
+        );
     }
 }
 

@@ -25,12 +25,14 @@ use Rattle.image.specs.Image.{selected, select, apply}
 use Rattle.image.specs.Feed.{feedOf}
 use Rattle.image.proofs.Images.{length-apply, apply-append, selected-give, selected-select}
 use Rattle.profile.specs.declared.ProfileSerializer.{ProfileSerializer}
-use Rattle.profile.specs.declared.Value.{Value}
-use Rattle.profile.specs.declared.Value.the-variants.{Given, Absent}
-use Rattle.profile.specs.Rules.{wordOf, pushSize, quarter, full, above, pushNumber, finalizeNumber, given, pushWrites, paddingWritesBy, paddingWrites}
+use Rattle.rules.specs.declared.Value.{Value}
+use Rattle.rules.specs.declared.Value.the-variants.{Given, Absent}
+use Rattle.rules.specs.Rules.{wordOf, pushSize, quarter, full, above, pushNumber, finalizeNumber, given, pushWrites, paddingWritesBy, paddingWrites}
 use Rattle.profile.specs.Serializer.{newOf, pushOf, finalizedOf, grown, streamOf}
-use Rattle.profile.specs.Lent.{Held, held}
-use Rattle.profile.proofs.Sizes.{length-push, length-padding, padding-fits, held-below, word-held}
+use Rattle.profile.specs.Lent.{held}
+use Rattle.rules.specs.Judged.{Held}
+use Rattle.profile.proofs.Sizes.{length-push, length-padding}
+use Rattle.rules.proofs.Lengths.{padding-fits, held-below, word-held}
 use Rattle.script.specs.declared.Step.{Step}
 use Rattle.script.specs.declared.Step.the-variants.{Push, Finalize}
 use Rattle.script.specs.Meaning.{Told, gives, paddedBy, numberAt, sizeAt, effectAt, tell, tellAll, meaning}

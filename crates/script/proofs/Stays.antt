@@ -17,9 +17,9 @@ use Rattle.registers.specs.Registers.{CSR, CFTW0, CPOW0, ACR, LSRR}
 use Rattle.bitfields.specs.Csr.{byteOf}
 use Rattle.image.specs.Image.{reaches, give, selected, select}
 use Rattle.image.proofs.Images.{nor, apart, misses, give-stays}
-use Rattle.profile.specs.declared.Value.{Value}
-use Rattle.profile.specs.declared.Value.the-variants.{Given, Absent}
-use Rattle.profile.specs.Rules.{wordOf}
+use Rattle.rules.specs.declared.Value.{Value}
+use Rattle.rules.specs.declared.Value.the-variants.{Given, Absent}
+use Rattle.rules.specs.Rules.{wordOf}
 use Rattle.script.specs.declared.Step.{Step}
 use Rattle.script.specs.declared.Step.the-variants.{Push, Finalize}
 use Rattle.script.specs.Meaning.{gives, paddedBy, Told, numberAt, effectAt, tell, tellAll, meaning, touchesBy, touches, Spared, SparedBy}

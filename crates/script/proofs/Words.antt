@@ -9,9 +9,9 @@ use lib.Dec.{ltb, eqb}
 use borrow.Author.Tests.{ltb-true, ltb-false, eqb-false, le-ltb, lt-ltb}
 use Rattle.registers.specs.Answers.{Mode, Room, Ok}
 use Rattle.profile.specs.declared.ProfileSerializer.{ProfileSerializer}
-use Rattle.profile.specs.Rules.{padding, quarter, finalizeNumber}
+use Rattle.rules.specs.Rules.{padding, quarter, finalizeNumber}
 use Rattle.profile.specs.Serializer.{finalizedOf}
-use Rattle.profile.proofs.Sizes.{padding-fits}
+use Rattle.rules.proofs.Lengths.{padding-fits}
 
 -- a quarter of what fits 32 bytes is at most 8
 few : (n words : ℕ) → n + padding n ≤ 32 → ltb (min words 8) (quarter n) ≡ ltb words (quarter n)

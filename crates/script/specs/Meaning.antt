@@ -8,9 +8,9 @@ use lib.Dec.{T, eqb}
 use Rattle.registers.specs.Answers.{Ok}
 use Rattle.registers.specs.Registers.{CSR, CFTW0, CPOW0, ACR, LSRR}
 use Rattle.image.specs.Image.{give, selected, select, reaches}
-use Rattle.profile.specs.declared.Value.{Value}
-use Rattle.profile.specs.declared.Value.the-variants.{Given, Absent}
-use Rattle.profile.specs.Rules.{wordOf, pushSize, padding, pushNumber, finalizeNumber}
+use Rattle.rules.specs.declared.Value.{Value}
+use Rattle.rules.specs.declared.Value.the-variants.{Given, Absent}
+use Rattle.rules.specs.Rules.{wordOf, pushSize, padding, pushNumber, finalizeNumber}
 use Rattle.script.specs.declared.Step.{Step}
 use Rattle.script.specs.declared.Step.the-variants.{Push, Finalize}
 

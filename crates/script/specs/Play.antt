@@ -9,8 +9,8 @@ use lib.ListN.{length, getD}
 use Rattle.registers.specs.Answers.{Ok, Mode, Room}
 use Rattle.profile.specs.declared.ProfileSerializer.{ProfileSerializer}
 use Rattle.profile.specs.declared.Stepped.{Stepped}
-use Rattle.profile.specs.declared.Tuning.the-variants.{Tune, Keep}
-use Rattle.profile.specs.declared.Value.the-variants.{Given, Absent}
+use Rattle.rules.specs.declared.Tuning.the-variants.{Tune, Keep}
+use Rattle.rules.specs.declared.Value.the-variants.{Given, Absent}
 use Rattle.script.specs.declared.Step.{Step}
 use Rattle.script.specs.declared.Step.the-variants.{Push, Finalize}
 use Rattle.script.specs.Meaning.{numberAt, meaning}

@@ -6,8 +6,8 @@ use lib.ListN.{length}
 use Rattle.profile.specs.declared.ProfileSerializer.{ProfileSerializer}
 use Rattle.profile.specs.declared.Stepped.{Stepped}
 use Rattle.profile.specs.declared.Finalized.{Finalized}
-use Rattle.profile.specs.declared.Tuning.{Tuning}
-use Rattle.profile.specs.declared.Value.{Value}
+use Rattle.rules.specs.declared.Tuning.{Tuning}
+use Rattle.rules.specs.declared.Value.{Value}
 use Rattle.profile.specs.Serializer.{pushOf, finalizedOf, Finalizes}
 use Rattle.script.specs.declared.Step.{Step}
 use Rattle.script.specs.declared.Step.the-variants.{Push, Finalize}

@@ -5,7 +5,7 @@ use Rattle.registers.specs.Registers.{widthOf}
 use Rattle.registers.specs.Bytes.{bigEndian, laid}
 use Rattle.stream.specs.Streams.{writeBytes, encode}
 use Rattle.registers.specs.Fields.{fieldOf, withField}
-use Rattle.profile.specs.Rules.{pushNumber, pushWrites, finalizeNumber, paddingWrites}
+use Rattle.rules.specs.Rules.{pushNumber, pushWrites, finalizeNumber, paddingWrites}
 use Rattle.profile.specs.Serializer.{pushOf, finalizedOf, wordsOf}
 use Rattle.table.specs.Table.{table, Holds}
 

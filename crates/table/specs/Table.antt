@@ -13,11 +13,11 @@ use Rattle.convert.specs.Phase as phase
 use Rattle.convert.specs.Amplitude as amplitude
 use Rattle.convert.specs.Clock.{clockOf}
 use Rattle.profile.specs.declared.ProfileSerializer.{ProfileSerializer}
-use Rattle.profile.specs.declared.Tuning.the-variants.{Tune, Keep}
-use Rattle.profile.specs.declared.Tuning.{Tuning}
-use Rattle.profile.specs.declared.Value.the-variants.{Given, Absent}
-use Rattle.profile.specs.declared.Value.{Value}
-use Rattle.profile.specs.Rules.{quarter}
+use Rattle.rules.specs.declared.Tuning.the-variants.{Tune, Keep}
+use Rattle.rules.specs.declared.Tuning.{Tuning}
+use Rattle.rules.specs.declared.Value.the-variants.{Given, Absent}
+use Rattle.rules.specs.declared.Value.{Value}
+use Rattle.rules.specs.Rules.{quarter}
 use Rattle.profile.specs.Serializer.{newOf, pushOf, finalizedOf, streamOf, wordsOf}
 
 -- a push: a mask, and what is given

@@ -2,7 +2,7 @@
 use mathlib.Core.Path.{_≡_, refl}
 use Prim.Native.Nat.{ℕ, zero, suc, _+_, _*_, _≤_, _<_}
 use native.Mathlib.Omega.{arith}
-use Rattle.profile.specs.declared.Value.the-variants.{Given, Absent}
+use Rattle.rules.specs.declared.Value.the-variants.{Given, Absent}
 use Rattle.profile.specs.Lent.{csrBy}
 use borrow.Author.Needs.{needs}
 use Rattle.profile.proofs.lay.csr.Statement.{statement}

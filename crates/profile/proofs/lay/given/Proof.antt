@@ -8,7 +8,7 @@ use Rattle.registers.specs.Registers.{wrote, widthOf}
 use Rattle.stream.proofs.Streams.{length-write}
 use Rattle.stream.proofs.Rest.{fault-clear}
 use Rattle.stream.proofs.Lays.{lays-good}
-use Rattle.profile.specs.declared.Value.the-variants.{Given}
+use Rattle.rules.specs.declared.Value.the-variants.{Given}
 use Rattle.profile.proofs.Sizes.{encode-given, encode-absent, length-given}
 use Rattle.profile.proofs.Puts.{puts-none}
 use Rattle.profile.proofs.lay.given.Statement.{statement}

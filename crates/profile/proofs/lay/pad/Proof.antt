@@ -8,8 +8,9 @@ use lib.ListN.{length, length-append}
 use borrow.Author.Needs.{needs}
 use Rattle.registers.specs.Registers.{widthOf, CSR, LSRR}
 use Rattle.stream.specs.Streams.{encode}
-use Rattle.profile.specs.Rules.{given}
-use Rattle.profile.specs.Lent.{Held, lsrrBy, csrBy}
+use Rattle.rules.specs.Rules.{given}
+use Rattle.profile.specs.Lent.{lsrrBy, csrBy}
+use Rattle.rules.specs.Judged.{Held}
 use Rattle.profile.proofs.Sizes.{padding-writes, length-padding}
 use Rattle.profile.proofs.Puts.{puts-then}
 use Rattle.profile.proofs.lay.pad.Statement.{statement}

@@ -10,7 +10,7 @@ use Rattle.stream.specs.Streams.{writeBytes, encode}
 use Rattle.stream.proofs.Streams.{length-write}
 use Rattle.stream.proofs.Rest.{fault-clear}
 use Rattle.stream.proofs.Lays.{lays-good}
-use Rattle.profile.specs.Rules.{given}
+use Rattle.rules.specs.Rules.{given}
 use Rattle.profile.proofs.Sizes.{length-given, encode-push}
 use Rattle.profile.proofs.Puts.{puts-then, puts-ahead}
 use Rattle.profile.proofs.lay.push.Statement.{statement}

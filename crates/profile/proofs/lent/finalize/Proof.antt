@@ -7,7 +7,7 @@ use lib.ListN.{length}
 use borrow.Author.Needs.{needs}
 use borrow.Author.Tests.{ne-eqb}
 use Rattle.registers.proofs.Laid.{laid-nil}
-use Rattle.profile.specs.Rules.{padding, quarter}
+use Rattle.rules.specs.Rules.{padding, quarter}
 use Rattle.profile.specs.Serializer.{finalizedOf}
 use Rattle.profile.proofs.Sizes.{length-padding}
 use Rattle.profile.proofs.lent.finalize.Statement.{statement}

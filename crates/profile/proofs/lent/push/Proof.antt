@@ -4,16 +4,17 @@ use Prim.Native.Nat.{ℕ, _+_, _≤_}
 use mathlib.Core.List.{List}
 use Rattle.registers.specs.Bytes.{laid}
 use Rattle.stream.specs.Streams.{encode}
-use Rattle.profile.specs.declared.Tuning.{Tuning}
-use Rattle.profile.specs.declared.Value.{Value}
+use Rattle.rules.specs.declared.Tuning.{Tuning}
+use Rattle.rules.specs.declared.Value.{Value}
 use native.Mathlib.Omega.{arith}
 use denote.Ref.{now}
 use borrow.Author.Needs.{needs}
 use borrow.Author.Tests.{ne-eqb}
 use Rattle.registers.specs.Registers.{CPOW0, ACR}
-use Rattle.profile.specs.Rules.{wordOf, pushSize, pushNumber, pushWrites}
+use Rattle.rules.specs.Rules.{wordOf, pushSize, pushNumber, pushWrites}
 use Rattle.profile.specs.Serializer.{pushOf}
-use Rattle.profile.specs.Lent.{Held, held}
+use Rattle.profile.specs.Lent.{held}
+use Rattle.rules.specs.Judged.{Held}
 use Rattle.profile.proofs.Sizes.{length-push}
 use Rattle.profile.proofs.lent.push.Statement.{statement}
 use Rattle.profile.proofs.lent.push.Tie as tie

@@ -7,7 +7,7 @@ use Rattle.pulse.proofs.say.safe.Statement.{statement}
 use Rattle.pulse.proofs.say.safe.Tie as tie
 
 abbrev Inv-loop : tie.InvT-loop
-Inv-loop s out₀ i₀ out i = (i ≤ length s) × (length out ≡ length out₀)
+Inv-loop s out₀ i₀ out i = (i ≤ length out₀) × (length out ≡ length out₀)
 
 abbrev μ-loop : tie.MeasureT-loop
 μ-loop s out₀ i₀ out i = length s - i

@@ -1,13 +1,13 @@
--- `profile::judge::finalize` meets its contract: at each `return` the tests that led there pick the case of `finalizeNumber`.
+-- `rules::judge::finalize` meets its contract: at each `return` the tests that led there pick the case of `finalizeNumber`.
 use Prim.Native.Nat.{_+_}
 use mathlib.Core.Path.{refl}
 use native.Mathlib.Omega.{arith}
 use borrow.Author.Tests.{lt-ltb, le-ltb, eq-eqb, ne-eqb}
 use borrow.Author.Needs.{needs}
-use Rattle.profile.specs.Rules.{finalizeNumber}
-use Rattle.profile.proofs.Sizes.{padding-fits}
-use Rattle.profile.proofs.judge.finalize.Statement.{statement}
-use Rattle.profile.proofs.judge.finalize.Tie as tie
+use Rattle.rules.specs.Rules.{finalizeNumber}
+use Rattle.rules.proofs.Lengths.{padding-fits}
+use Rattle.rules.proofs.judge.finalize.Statement.{statement}
+use Rattle.rules.proofs.judge.finalize.Tie as tie
 
 returns : tie.Need-returns
 unfolding finalizeNumber

@@ -1,10 +1,10 @@
--- `profile::size` meets its contract: the size of the word's value.
+-- `rules::size` meets its contract: the size of the word's value.
 use mathlib.Core.Path.{_∙_, ap}
 use borrow.Author.Needs.{needs}
-use Rattle.profile.specs.declared.Value.{Value}
-use Rattle.profile.specs.Rules.{pushSize}
-use Rattle.profile.proofs.size.Statement.{statement}
-use Rattle.profile.proofs.size.Tie as tie
+use Rattle.rules.specs.declared.Value.{Value}
+use Rattle.rules.specs.Rules.{pushSize}
+use Rattle.rules.proofs.size.Statement.{statement}
+use Rattle.rules.proofs.size.Tie as tie
 
 returns : tie.Need-returns
 returns c =

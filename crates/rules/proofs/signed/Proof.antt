@@ -1,4 +1,4 @@
--- `profile::signed` meets its contract. Assumes nothing.
+-- `rules::signed` meets its contract. Assumes nothing.
 use mathlib.Core.Path.{_≡_, refl, ap}
 use Prim.Native.Nat.{ℕ, zero, suc, _-_, _<_}
 use native.Mathlib.Omega.{arith}
@@ -8,8 +8,8 @@ use mir.Val.{SFits, toZ, ofZ}
 use mir.ValLaws.{toZ-ofZ}
 use borrow.Author.Tests.{lt-ltb, le-ltb}
 use borrow.Author.Needs.{needs}
-use Rattle.profile.proofs.signed.Statement.{statement}
-use Rattle.profile.proofs.signed.Tie as tie
+use Rattle.rules.proofs.signed.Statement.{statement}
+use Rattle.rules.proofs.signed.Tie as tie
 
 small : (n : ℕ) → n < 2147483648 → toZ w32 n ≡ pos n
 small n h = toZ-ofZ w32 (pos n) (record { sfits = h })

@@ -7,10 +7,10 @@ use lib.IntN.{ℤ, pos, negsuc}
 use Rattle.registers.specs.Answers.{Ok, Mask, Mode, Word, Room}
 use Rattle.registers.specs.Registers.{Write, wrote, CSR, CFTW0, CPOW0, ACR, LSRR}
 use Rattle.bitfields.specs.Csr.{byteOf}
-use Rattle.profile.specs.declared.Tuning.{Tuning}
-use Rattle.profile.specs.declared.Tuning.the-variants.{Tune, Keep}
-use Rattle.profile.specs.declared.Value.{Value}
-use Rattle.profile.specs.declared.Value.the-variants.{Given, Absent}
+use Rattle.rules.specs.declared.Tuning.{Tuning}
+use Rattle.rules.specs.declared.Tuning.the-variants.{Tune, Keep}
+use Rattle.rules.specs.declared.Value.{Value}
+use Rattle.rules.specs.declared.Value.the-variants.{Given, Absent}
 
 -- the tuning word in two's complement, 32 bits of it
 abbrev pub bitsOf : ℤ → ℕ

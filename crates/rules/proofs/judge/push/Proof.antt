@@ -1,4 +1,4 @@
--- `profile::judge::push` meets its contract: at each `return` the tests that led there pick the case of `pushNumber`.
+-- `rules::judge::push` meets its contract: at each `return` the tests that led there pick the case of `pushNumber`.
 use mathlib.Core.Path.{_≡_, sym, _∙_}
 use mathlib.Core.Bool.{false}
 use Prim.Native.Nat.{_+_, _<_, _≤_}
@@ -7,10 +7,10 @@ use lib.Dec.{ltb, lit<}
 use borrow.Author.Needs.{needs}
 use borrow.Author.Tests.{lt-ltb, le-ltb, eq-eqb, ne-eqb}
 use Rattle.registers.specs.Registers.{widthOf, CPOW0, ACR}
-use Rattle.profile.specs.Rules.{above, pushNumber, pushSize}
-use Rattle.profile.proofs.Sizes.{held-below}
-use Rattle.profile.proofs.judge.push.Statement.{statement}
-use Rattle.profile.proofs.judge.push.Tie as tie
+use Rattle.rules.specs.Rules.{above, pushNumber, pushSize}
+use Rattle.rules.proofs.Lengths.{held-below}
+use Rattle.rules.proofs.judge.push.Statement.{statement}
+use Rattle.rules.proofs.judge.push.Tie as tie
 
 mode-ok : (c : tie.Else1) → ltb 3 (c .before .args .mode) ≡ false
 mode-ok c = le-ltb _ _ (c .if1 .left)

@@ -1,17 +1,17 @@
--- `profile::judge::word` meets its contract. Assumes nothing.
+-- `rules::judge::word` meets its contract. Assumes nothing.
 use mathlib.Core.Path.{_≡_, _∙_, sym, ap}
 use mir.Syntax.{w32}
 use mir.ValLaws.{toZ-ofZ}
 use Rattle.registers.specs.Registers.{CFTW0}
-use Rattle.profile.specs.declared.Tuning.{Tuning}
-use Rattle.profile.specs.declared.Value.{Value}
-use Rattle.profile.specs.declared.Value.the-variants.{Given}
-use Rattle.profile.specs.Rules.{bitsOf, wordOf}
-use Rattle.profile.specs.Lent.{Held}
-use Rattle.profile.proofs.Sizes.{word-held}
+use Rattle.rules.specs.declared.Tuning.{Tuning}
+use Rattle.rules.specs.declared.Value.{Value}
+use Rattle.rules.specs.declared.Value.the-variants.{Given}
+use Rattle.rules.specs.Rules.{bitsOf, wordOf}
+use Rattle.rules.specs.Judged.{Held}
+use Rattle.rules.proofs.Lengths.{word-held}
 use borrow.Author.Needs.{needs}
-use Rattle.profile.proofs.judge.word.Statement.{statement}
-use Rattle.profile.proofs.judge.word.Tie as tie
+use Rattle.rules.proofs.judge.word.Statement.{statement}
+use Rattle.rules.proofs.judge.word.Tie as tie
 
 held-as : (v : Value) (t : Tuning) → v ≡ wordOf t → Held CFTW0 v
 held-as v t e = rw e (word-held t)

@@ -1,14 +1,14 @@
-// The rules: what a step gives back, and how long it is.
+// What a step gives back.
 ghost use mathlib.Core.Path.{_≡_};
 ghost use Prim.Native.Nat.{_+_, _*_, _≤_};
 ghost use Rattle.registers.specs.Registers.{CFTW0};
-ghost use Rattle.profile.specs.Rules.{wordOf, cost, pushSize, above, padding, quarter};
-ghost use Rattle.profile.specs.Lent.{Held, PushJudged, FinalizeJudged};
+ghost use Rattle.rules.specs.Rules.{wordOf, cost, pushSize, above, padding, quarter};
+ghost use Rattle.rules.specs.Judged.{Held, PushJudged, FinalizeJudged};
 use crate::Tuning;
 use crate::Value;
 use registers::answer;
 
-pub(crate) fn word(tuning: Tuning) -> Value
+pub fn word(tuning: Tuning) -> Value
     ensures { λ r. ⌜ (r ≡ wordOf tuning) × Held CFTW0 r ⌝ }
 {
     match tuning {
@@ -27,7 +27,7 @@ fn cost(value: Value, size: usize) -> usize
 }
 
 // How many bytes a push takes.
-pub(crate) fn size(word: Value, phase: Value, acr: Value) -> usize
+pub fn size(word: Value, phase: Value, acr: Value) -> usize
     ensures { λ r. ⌜ (r ≡ pushSize word phase acr) × (r ≤ 14) ⌝ }
 {
     2 + cost(word, 5) + cost(phase, 3) + cost(acr, 4)
@@ -43,14 +43,7 @@ fn above(most: u32, value: Value) -> bool
 }
 
 // The number of a push. Of Ok it is known besides what the push goes on to need.
-pub(crate) fn push(
-    mode: u32,
-    length: usize,
-    mask: u32,
-    word: Value,
-    phase: Value,
-    acr: Value,
-) -> u32
+pub fn push(mode: u32, length: usize, mask: u32, word: Value, phase: Value, acr: Value) -> u32
     ensures { λ r. ⌜ PushJudged mode length mask word phase acr r ⌝ }
 {
     if 3 < mode {
@@ -92,7 +85,7 @@ fn padding(length: usize) -> usize
 }
 
 // How many words the profile takes once it is padded.
-pub(crate) fn quarter(length: usize) -> usize
+pub fn quarter(length: usize) -> usize
     requires { ⌜ length ≤ 32 ⌝ }
     ensures { λ r. ⌜ (r ≡ quarter length) × (r * 4 ≡ length + padding length) ⌝ }
 {
@@ -100,7 +93,7 @@ pub(crate) fn quarter(length: usize) -> usize
 }
 
 // The number of a finalising. Of Ok it is known besides what finalising goes on to need.
-pub(crate) fn finalize(mode: u32, length: usize, words: usize) -> u32
+pub fn finalize(mode: u32, length: usize, words: usize) -> u32
     ensures { λ r. ⌜ FinalizeJudged mode length words r ⌝ }
 {
     if 3 < mode {

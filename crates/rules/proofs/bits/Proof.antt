@@ -1,4 +1,4 @@
--- `profile::bits` is two's complement. A negative z is -(n + 1), and -1 - z is n.
+-- `rules::bits` is two's complement. A negative z is -(n + 1), and -1 - z is n.
 use mathlib.Core.Path.{_≡_, sym, ap}
 use mathlib.Core.Bool.{true, false}
 use mathlib.Core.Bool
@@ -11,9 +11,9 @@ use mir.Syntax.{w32}
 use mir.Val.{SFits, toZ, ofZ}
 use mir.ValLaws.{toZ-ofZ}
 use borrow.Author.Tests.{ltb-true, le-ltb}
-use Rattle.profile.specs.Rules.{bitsOf}
-use Rattle.profile.proofs.bits.Statement.{statement}
-use Rattle.profile.proofs.bits.Tie as tie
+use Rattle.rules.specs.Rules.{bitsOf}
+use Rattle.rules.proofs.bits.Statement.{statement}
+use Rattle.rules.proofs.bits.Tie as tie
 
 flip : (n : ℕ) → negsuc 0 -ℤ negsuc n ≡ pos n
 flip n = rw (le-ltb (suc n) 1 (omega arith)) (ap pos (omega arith))

@@ -1,10 +1,10 @@
--- `profile::judge::padding` meets its contract. Assumes nothing.
+-- `rules::judge::padding` meets its contract. Assumes nothing.
 use native.Mathlib.Omega.{arith}
 use mathlib.Core.Path.{_≡_, refl}
 use Prim.Native.Nat.{ℕ, zero, suc}
-use Rattle.profile.specs.Rules.{paddingBy}
-use Rattle.profile.proofs.judge.padding.Statement.{statement}
-use Rattle.profile.proofs.judge.padding.Tie as tie
+use Rattle.rules.specs.Rules.{paddingBy}
+use Rattle.rules.proofs.judge.padding.Statement.{statement}
+use Rattle.rules.proofs.judge.padding.Tie as tie
 
 other : (r : ℕ) → (r ≡ 0 → ⊥) → (r ≡ 1 → ⊥) → (r ≡ 2 → ⊥) → 5 ≡ paddingBy r
 other zero a b c = absurd (a refl)

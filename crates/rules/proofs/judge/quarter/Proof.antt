@@ -1,8 +1,8 @@
--- `profile::judge::quarter` meets its contract. Assumes nothing.
-use Rattle.profile.proofs.Sizes.{padded-quarters}
+-- `rules::judge::quarter` meets its contract. Assumes nothing.
+use Rattle.rules.proofs.Lengths.{padded-quarters}
 use borrow.Author.Needs.{needs}
-use Rattle.profile.proofs.judge.quarter.Statement.{statement}
-use Rattle.profile.proofs.judge.quarter.Tie as tie
+use Rattle.rules.proofs.judge.quarter.Statement.{statement}
+use Rattle.rules.proofs.judge.quarter.Tie as tie
 
 returns : tie.Need-returns
 returns c = (rw (c .padding .ensures .0), rw (c .padding .ensures .0) (padded-quarters (c .before .args .length)))

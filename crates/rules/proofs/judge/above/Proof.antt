@@ -1,7 +1,7 @@
--- `profile::judge::above` meets its contract. Assumes nothing.
+-- `rules::judge::above` meets its contract. Assumes nothing.
 use borrow.Author.Needs.{needs}
-use Rattle.profile.proofs.judge.above.Statement.{statement}
-use Rattle.profile.proofs.judge.above.Tie as tie
+use Rattle.rules.proofs.judge.above.Statement.{statement}
+use Rattle.rules.proofs.judge.above.Tie as tie
 
 returns : tie.Need-returns
 returns c = rw (c .before .value .given .1)
