@@ -68,28 +68,18 @@ pub fn push(mode: u32, length: usize, mask: u32, word: Value, phase: Value, acr:
     answer::OK
 }
 
-fn padding(length: usize) -> usize
-    ensures { λ r. ⌜ (r ≡ padding length) × (r ≤ 5) ⌝ }
-{
-    let r = length % 4;
-    if r == 0 {
-        return 0;
-    }
-    if r == 1 {
-        return 3;
-    }
-    if r == 2 {
-        return 2;
-    }
-    5
-}
-
-// How many words the profile takes once it is padded.
+// How many words a profile takes once it is padded.
 pub fn quarter(length: usize) -> usize
-    requires { ⌜ length ≤ 32 ⌝ }
     ensures { λ r. ⌜ (r ≡ quarter length) × (r * 4 ≡ length + padding length) ⌝ }
 {
-    (length + padding(length)) / 4
+    let rest = length % 4;
+    if rest == 0 {
+        return length / 4;
+    }
+    if rest == 3 {
+        return length / 4 + 2;
+    }
+    length / 4 + 1
 }
 
 // The number of a finalising. Of Ok it is known besides what finalising goes on to need.

@@ -26,9 +26,6 @@ returns c =
     let z = ne-eqb (c .before .finalize .result) 0 (c .if1 .taken) in
     record { seals = record { answer = rw (e, z); after = rw (e, z) (sym (laid-nil (now (c .before .before .before .before .args .words)) 0)) } }
 
-quarter-requires : tie.Need-quarter-requires
-quarter-requires c κs = omega (arith, known c)
-
 pad-requires : tie.Need-pad-requires
 pad-requires c κs = let k = known (c .before .before) in (k .0, omega (arith, k))
 
@@ -56,4 +53,4 @@ returns-2 c =
     }
 
 pub finalize-spec : {M : Type 1} → statement M
-finalize-spec = tie.close (tie.spec (λ c κs. search needs) returns quarter-requires pad-requires copy-requires (λ c. search needs) returns-2)
+finalize-spec = tie.close (tie.spec (λ c κs. search needs) returns (λ c κs. search needs) pad-requires copy-requires (λ c. search needs) returns-2)
