@@ -68,18 +68,11 @@ pub fn push(mode: u32, length: usize, mask: u32, word: Value, phase: Value, acr:
     answer::OK
 }
 
-// How many words a profile takes once it is padded.
+// How many words a profile takes once it is padded: none, one, one or two more by the length modulo 4.
 pub fn quarter(length: usize) -> usize
     ensures { λ r. ⌜ (r ≡ quarter length) × (r * 4 ≡ length + padding length) ⌝ }
 {
-    let rest = length % 4;
-    if rest == 0 {
-        return length / 4;
-    }
-    if rest == 3 {
-        return length / 4 + 2;
-    }
-    length / 4 + 1
+    length / 4 + (length % 4 + 1) / 2
 }
 
 // The number of a finalising. Of Ok it is known besides what finalising goes on to need.
