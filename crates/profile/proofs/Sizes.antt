@@ -15,8 +15,9 @@ use Rattle.stream.specs.Streams.{writeBytes, encode}
 use Rattle.stream.proofs.Streams.{encode-one, encode-append, length-write}
 use Rattle.rules.specs.declared.Value.{Value}
 use Rattle.rules.specs.declared.Value.the-variants.{Given, Absent}
-use Rattle.rules.specs.Rules.{cost, pushSize, paddingBy, padding, given, csr, pushWrites, paddingWritesBy, paddingWrites}
-use Rattle.profile.specs.Lent.{lsrrBy, csrBy}
+use Rattle.rules.specs.Rules.{cost, pushSize, paddingBy, padding, given, csr, pushWrites, paddingWrites}
+use Rattle.rules.proofs.Lengths.{padding-by}
+use Rattle.rules.specs.Judged.{lsrrBy, csrBy}
 
 pub encode-given : (a v : ℕ) → encode (given a (Given v)) ≡ writeBytes (wrote a v)
 encode-given a v = encode-one (wrote a v)
@@ -36,12 +37,6 @@ encode-push w t p a = simp (encode-append, append-assoc)
 pub length-push : (mode mask : ℕ) (t p a : Value) → length (encode (pushWrites mode mask t p a)) ≡ pushSize t p a
 unfolding pushWrites widthOf
 length-push mode mask t p a = rw (encode-push (csr mode mask) t p a) (simp (length-append, length-write, length-given) (omega arith))
-
-pub padding-by : (mode r : ℕ) → paddingWritesBy mode r ≡ given LSRR (lsrrBy r) ++ given CSR (csrBy mode r)
-padding-by mode zero = refl
-padding-by mode (suc zero) = refl
-padding-by mode (suc (suc zero)) = refl
-padding-by mode (suc (suc (suc r))) = refl
 
 pub padding-writes : (mode n : ℕ) → encode (paddingWrites mode n) ≡ encode (given LSRR (lsrrBy (n % 4))) ++ encode (given CSR (csrBy mode (n % 4)))
 unfolding paddingWrites

@@ -1,14 +1,12 @@
 -- A serializer whose length and bytes are lent: what a push and a finalising give and leave. Definitions only.
-use Prim.Native.Nat.{ℕ, zero, suc, _+_, _-_, _*_}
+use Prim.Native.Nat.{ℕ, _+_, _-_, _*_}
 use mathlib.Core.Path.{_≡_}
 use mathlib.Core.List.{List}
 use lib.ListN.{length, drop}
-use Rattle.bitfields.specs.Csr.{byteOf}
 use Rattle.registers.specs.Bytes.{laid}
 use Rattle.profile.specs.declared.ProfileSerializer.{ProfileSerializer}
 use Rattle.rules.specs.declared.Tuning.{Tuning}
 use Rattle.rules.specs.declared.Value.{Value}
-use Rattle.rules.specs.declared.Value.the-variants.{Given, Absent}
 use Rattle.profile.specs.Serializer.{pushOf, Finalizes, wordsOf}
 
 abbrev pub held : ℕ → ℕ → List ℕ → ProfileSerializer
@@ -23,18 +21,6 @@ pub record Seals (mode length : ℕ) (bytes words : List ℕ) (number length′ 
   pub seals : Finalizes (held mode length bytes) words (record { number = number; count = count; serializer = held mode length′ bytes′ }) words′
 
 -- ---- for the code's own contracts
-
--- padding as values, by the length modulo 4
-abbrev pub lsrrBy : ℕ → Value
-lsrrBy zero = Absent
-lsrrBy (suc zero) = Given 0
-lsrrBy (suc (suc zero)) = Absent
-lsrrBy (suc (suc (suc r))) = Given 0
-
-abbrev pub csrBy : ℕ → ℕ → Value
-csrBy mode zero = Absent
-csrBy mode (suc zero) = Absent
-csrBy mode (suc (suc r)) = Given (byteOf mode 15)
 
 -- a list laid over bytes from a place on, and the place behind it
 pub record Puts (bytes : List ℕ) (at : ℕ) (s : List ℕ) (next : ℕ) (bytes′ : List ℕ) : Type 0 where

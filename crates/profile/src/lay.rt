@@ -6,8 +6,8 @@ ghost use lib.ListN.{length};
 ghost use Rattle.registers.specs.Registers.{wrote, CSR, CFTW0, CPOW0, ACR};
 ghost use Rattle.stream.specs.Streams.{encode};
 ghost use Rattle.rules.specs.Rules.{pushSize, padding, given, paddingWrites};
-ghost use Rattle.profile.specs.Lent.{Puts, lsrrBy, csrBy};
-ghost use Rattle.rules.specs.Judged.{Held};
+ghost use Rattle.profile.specs.Lent.{Puts};
+ghost use Rattle.rules.specs.Judged.{Held, lsrrBy, csrBy};
 use crate::Value;
 use registers::address;
 

@@ -3,7 +3,7 @@ use mathlib.Core.Path.{_≡_, refl}
 use Prim.Native.Nat.{ℕ, zero, suc, _%_, _<_}
 use native.Mathlib.Omega.{arith}
 use Rattle.rules.specs.declared.Value.the-variants.{Given, Absent}
-use Rattle.profile.specs.Lent.{lsrrBy}
+use Rattle.rules.specs.Judged.{lsrrBy}
 use Rattle.profile.proofs.lay.lsrr.Statement.{statement}
 use Rattle.profile.proofs.lay.lsrr.Tie as tie
 

@@ -9,8 +9,7 @@ use borrow.Author.Needs.{needs}
 use Rattle.registers.specs.Registers.{widthOf, CSR, LSRR}
 use Rattle.stream.specs.Streams.{encode}
 use Rattle.rules.specs.Rules.{given}
-use Rattle.profile.specs.Lent.{lsrrBy, csrBy}
-use Rattle.rules.specs.Judged.{Held}
+use Rattle.rules.specs.Judged.{Held, lsrrBy, csrBy}
 use Rattle.profile.proofs.Sizes.{padding-writes, length-padding}
 use Rattle.profile.proofs.Puts.{puts-then}
 use Rattle.profile.proofs.lay.pad.Statement.{statement}
