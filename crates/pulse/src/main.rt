@@ -7,6 +7,20 @@ mod why;
 use libc::STDIN_FILENO;
 use steps::State;
 
+// The mark that some editors put before a text.
+fn marked(line: &[u8]) -> bool {
+    if line.len() < 3 {
+        return false;
+    }
+    if line[0] != 0xef {
+        return false;
+    }
+    if line[1] != 0xbb {
+        return false;
+    }
+    line[2] == 0xbf
+}
+
 // A line that has ended, of at most 200 bytes.
 fn ended(st: State, line: &[u8]) -> State {
     let n = st.used;
@@ -18,6 +32,13 @@ fn ended(st: State, line: &[u8]) -> State {
     }
     if 200 < n {
         return steps::passed_over(next, &line[0..40], b"it has more than 200 bytes\n");
+    }
+    if st.lines == 0 {
+        if 3 <= n {
+            if marked(&line[0..n]) {
+                return steps::play(next, &line[3..n]);
+            }
+        }
     }
     steps::play(next, &line[0..n])
 }
