@@ -2,15 +2,11 @@
 --     same-is   what `check::same` says of them
 use Prim.Native.Nat.{ℕ}
 use mathlib.Core.Path.{_≡_, refl, sym}
-use mathlib.Core.Bool.{Bool, true, false, _&&_, false≢true}
+use mathlib.Core.Bool.{Bool, true, false, false≢true, and-eq-true-iff}
 use mathlib.Core.List.{List, [], _∷_}
 use lib.Dec.{eqb}
 use borrow.Author.Tests.{eqb-true, eq-eqb}
 use Rattle.notation.specs.Words.{sameOf}
-
-both : (s t : Bool) → (s && t) ≡ true → (s ≡ true) × (t ≡ true)
-both true t h = (refl, h)
-both false t h = absurd (false≢true h)
 
 same-equal : (a b : List ℕ) → sameOf a b ≡ true → a ≡ b
 unfolding sameOf
@@ -18,7 +14,7 @@ same-equal [] [] h = refl
 same-equal [] (y ∷ ys) h = absurd (false≢true h)
 same-equal (x ∷ xs) [] h = absurd (false≢true h)
 same-equal (x ∷ xs) (y ∷ ys) h =
-    let k = both (eqb x y) (sameOf xs ys) h in
+    let k = and-eq-true-iff (eqb x y) (sameOf xs ys) .0 h in
     rw (eqb-true x y (k .0), same-equal xs ys (k .1))
 
 same-self : (a : List ℕ) → sameOf a a ≡ true

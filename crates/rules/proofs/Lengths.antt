@@ -1,6 +1,7 @@
 -- Lengths that are padded, and values that are held.
 --     padding-fits     a length that is not full has room for its padding
---     padded-quarters  a padded length is a multiple of four
+--     quarters         a padded length is four times its words, by the length modulo 4
+--     padded-quarters  so it is a multiple of four
 --     padding-by       the padding as two values, LSRR before CSR
 --     held-below       a value that is not above some number is held where that is
 --     word-held        a tuning word's bits are held by its register
@@ -30,15 +31,18 @@ fits-by size n (suc (suc (suc r))) c e h k = omega arith
 pub padding-fits : (size n : ℕ) → size % 4 ≡ 0 → n ≤ size → (n + 1 ≡ size → ⊥) → n + padding n ≤ size
 padding-fits size n c h k = fits-by size n (n % 4) c refl h k
 
-quarters-by : (n r : ℕ) → r < 4 → n % 4 ≡ r → (n + paddingBy r) / 4 * 4 ≡ n + paddingBy r
+quarters-by : (n r : ℕ) → r < 4 → n % 4 ≡ r → (n / 4 + (r + 1) / 2) * 4 ≡ n + paddingBy r
 quarters-by n zero l e = omega arith
 quarters-by n (suc zero) l e = omega arith
 quarters-by n (suc (suc zero)) l e = omega arith
 quarters-by n (suc (suc (suc zero))) l e = omega arith
 quarters-by n (suc (suc (suc (suc r)))) l e = omega arith
 
+pub quarters : (n : ℕ) → (n / 4 + (n % 4 + 1) / 2) * 4 ≡ n + padding n
+quarters n = quarters-by n (n % 4) (omega arith) refl
+
 pub padded-quarters : (n : ℕ) → (n + padding n) / 4 * 4 ≡ n + padding n
-padded-quarters n = quarters-by n (n % 4) (omega arith) refl
+padded-quarters n = omega (arith, quarters n)
 
 pub padding-by : (mode r : ℕ) → paddingWritesBy mode r ≡ given LSRR (lsrrBy r) ++ given CSR (csrBy mode r)
 padding-by mode zero = refl
