@@ -1,5 +1,5 @@
 -- What a float cut toward zero is, by its bit pattern.
---     value-cut   whatever has the value a / c is cut as a / c is
+--     value_cut   whatever has the value a / c is cut as a / c is
 --     negative, positive   a pattern with the sign, and one without
 --     narrowed    16 bits from 32
 use Rattle.std.proofs.Common.{◌≡◌, ℕ, zero, suc, ◌+◌, ◌-◌, ◌*◌, ◌/◌, ◌%◌, ◌^◌, ◌<◌, ◌≤◌, min, Bool, true, false, cond, not, T, eqb, leb, sym, refl, ap, ◌∙◌, subst, mod-lt, mod-eq_of_lt, mul_assoc, add_comm, pow-suc, mul_left_comm, arith, lit<, lit≤, eqb→eq, pow_pos, le-leb}

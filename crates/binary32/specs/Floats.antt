@@ -1,4 +1,4 @@
--- Short names for IEEE 754's binary32 operations, as `lib.Ieee` defines them. Definitions only.
+-- Short names for IEEE 754's binary32 operations, as std defines them. Definitions only.
 use Rattle.std.specs.Prelude.{ℕ, Bool, ◌&&◌, pos, Float}
 use Rattle.std.specs.Float.{binary32}
 use Rattle.std.specs.Float.Ieee.{of_int, mul, div, le}

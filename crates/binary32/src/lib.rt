@@ -1,4 +1,6 @@
 // What Rust's casts do with an f32, worked out by the port itself, and its bit pattern.
+#![tactic(auto)]
+
 ghost use Rattle.std.specs.Prelude.{◌≡◌, ◌-◌, ◌*◌, ◌/◌, ◌^◌, ◌≤◌, min, from_bits, to_bits};
 ghost use Rattle.std.specs.Float.{binary32, nan};
 ghost use Rattle.std.specs.Float.Ieee.{to_unsigned};

@@ -1,8 +1,8 @@
 -- FR1 with a multiplier and vco_high.
---     clock-keeps        every bit below 18 stays, unnamed ones too; above 23 there is none
---     clock-multiplier   the multiplier reads back
---     clock-vco          vco_high reads back
---     clock-refused, clock-set   the two settings, one after the other, are the one
+--     clock_keeps        every bit below 18 stays, unnamed ones too; above 23 there is none
+--     clock_multiplier   the multiplier reads back
+--     clock_vco          vco_high reads back
+--     clock_refused, clock_set   the two settings, one after the other, are the one
 use mathlib.Core.Path.{◌≡◌, refl, sym, ap, ◌∙◌}
 use mathlib.Core.Bool.{Bool, true, false, ◌&&◌, cond, and-true}
 use Prim.Native.Nat.{ℕ, ◌<◌, ◌^◌}

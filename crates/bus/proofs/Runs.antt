@@ -2,21 +2,21 @@
 --     stands          a record of its own hands out its table's entry at its step
 --     not_own         any other hands out nothing, and neither does one past its table (beyond)
 --     within          a record with an action is one of its own, and its step is within its table; so is one whose reply is good (answered)
---     good-some       where a reply is good there was an action
---     over-stays      an ended sequence answers Over, and its record stays
---     hands-nothing   and it hands out nothing, whatever is replied
+--     good_some       where a reply is good there was an action
+--     over_stays      an ended sequence answers Over, and its record stays
+--     hands_nothing   and it hands out nothing, whatever is replied
 --     in_order        what a run hands out is the beginning of the table, from the step where it starts
 --     so_far          while it has an action, it is the table up to that
 --     first           from step 0 on, it is the table's first entries
 --     complete        where the last step is answered well, it is all of that
---     in-time         after as many replies as the table has steps left, it has ended
+--     in_time         after as many replies as the table has steps left, it has ended
 --     carried         what every step carries over, a run carries over
 --     along           good replies lead it along the records that they move it to
---     fault-ends      a reply with a fault ends the sequence
---     stop-ends       and so does one at which the sequence stops
---     failed-fault    a failed reply has one, but to a delay
---     failed-stops    so nothing is handed out after it
---     nothing-after   nor after any reply that ends the sequence
+--     fault_ends      a reply with a fault ends the sequence
+--     stop_ends       and so does one at which the sequence stops
+--     failed_fault    a failed reply has one, but to a delay
+--     failed_stops    so nothing is handed out after it
+--     nothing_after   nor after any reply that ends the sequence
 use mathlib.Core.Path.{◌≡◌, refl, sym, ap, ◌∙◌}
 use mathlib.Core.Logic.{◌⊎◌, inl, inr, ⊎_elim}
 use mathlib.Core.Bool.{true, false}

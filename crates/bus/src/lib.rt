@@ -1,4 +1,6 @@
 // One action of a bus sequence, the reply to it, and what is wrong with the reply.
+#![tactic(auto)]
+
 ghost use Rattle.std.specs.Prelude.{◌≡◌, cond};
 ghost use Rattle.registers.specs.Answers.{Ok};
 ghost use Rattle.bus.specs.Bus.{fault_of};
@@ -10,7 +12,7 @@ pub const IO_UPDATE: u32 = 0;
 pub const RESET: u32 = 1;
 
 // What a sequence hands out: a pin and whether it goes high, microseconds, a wire mode, an address and a value, an address.
-#[derive(Drop)]
+#[derive(Clone, Copy)]
 pub enum Action {
     Nothing,
     Pin(u32, bool),
@@ -21,7 +23,7 @@ pub enum Action {
 }
 
 // What the host says of an action: whether it failed, and what was read.
-#[derive(Drop)]
+#[derive(Clone, Copy)]
 pub struct Reply {
     pub failed: bool,
     pub value: u32,

@@ -1,9 +1,9 @@
 -- Values high byte first, once over the width.
---     length-bigEndian   as many bytes as the width
---     value-bigEndian    reading what was written gives the value
---     bigEndian-value    writing what was read gives the bytes
---     read_short, read-value   what a reading at a register's width tells
---     write-number       a value that fits its width is refused by Room alone
+--     length_big_endian   as many bytes as the width
+--     value_big_endian    reading what was written gives the value
+--     big_endian_value    writing what was read gives the bytes
+--     read_short, read_value   what a reading at a register's width tells
+--     write_number_fits       a value that fits its width is refused by Room alone
 use mathlib.Core.Path.{◌≡◌, refl, ◌∙◌}
 use mathlib.Core.List.{List, [], ◌∷◌, ◌++◌, append-nil, append_assoc}
 use Prim.Native.Nat.{ℕ, zero, suc, ◌+◌, ◌*◌, ◌/◌, ◌^◌, ◌≤◌, ◌<◌}

@@ -1,13 +1,13 @@
 -- A field of a word, once over position and width.
 --     get_set       what was set reads back
---     stays-below   what lies below the field stays, a field or a single bit
---     stays-above   what lies above it stays
---     set-get       setting what is there changes nothing
---     set-lt        a word that fits some bits fits them still
+--     stays_below   what lies below the field stays, a field or a single bit
+--     stays_above   what lies above it stays
+--     set_get       setting what is there changes nothing
+--     set_lt        a word that fits some bits fits them still
 --     too_wide      a value too wide is Word, and zero
 --     fits_out      no value fits a field that does not lie within 32 bits
---     fits-within   a value fits one that does if it is below 2 ^ width
---     get-past, get-wide   a field past 32 bits, or as wide
+--     fits_within   a value fits one that does if it is below 2 ^ width
+--     get_past, get_wide   a field past 32 bits, or as wide
 use mathlib.Core.Path.{◌≡◌, sym, ap, ◌∙◌}
 use mathlib.Core.Bool.{false, and-true, and-false}
 use Prim.Native.Nat.{ℕ, ◌+◌, ◌-◌, ◌*◌, ◌/◌, ◌%◌, ◌^◌, ◌≤◌, ◌<◌}

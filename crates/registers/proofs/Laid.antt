@@ -1,14 +1,14 @@
 -- Lists laid over lists: within a list, to lay is to store, one after the other (lib.Seq's `sets`).
---     laid-sets     within a list, to lay is to store
+--     laid_sets     within a list, to lay is to store
 --     laid_nil      laying nothing changes nothing
---     laid-front    at the front: the list, then what is left of the other
---     laid-laid     one list laid behind another
---     laid-ahead    one list laid before another that is there
+--     laid_front    at the front: the list, then what is left of the other
+--     laid_laid     one list laid behind another
+--     laid_ahead    one list laid before another that is there
 --     laid_cons     the first stored, the others laid behind it
---     laid-before, laid-behind   what stands before and behind stays
---     laid-below    what stands up to its end
---     length-laid   laying keeps the length
---     sets-snoc     the last of a run of stores may go first
+--     laid_before, laid_behind   what stands before and behind stays
+--     laid_below    what stands up to its end
+--     length_laid   laying keeps the length
+--     sets_snoc     the last of a run of stores may go first
 use mathlib.Core.Path.{◌≡◌, refl, sym, ap, ◌∙◌}
 use mathlib.Core.List.{List, [], ◌∷◌, ◌++◌, append-nil, append_assoc}
 use Prim.Native.Nat.{ℕ, suc, ◌+◌, ◌≤◌}

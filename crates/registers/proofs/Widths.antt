@@ -1,8 +1,8 @@
 -- The widths.
---     table-width     an entry of the code's table is the data sheet's, and is 1 to 4
---     width-range     a register has one to four bytes
---     width-most      no address has more than four
---     largest-holds   a value is at most the largest exactly if the register holds it
+--     table_width     an entry of the code's table is the data sheet's, and is 1 to 4
+--     width_range     a register has one to four bytes
+--     width_most      no address has more than four
+--     largest_holds   a value is at most the largest exactly if the register holds it
 --     bytes_bits      256 ^ k is 2 ^ (8 * k)
 use mathlib.Core.Path.{◌≡◌, refl, sym, ap, ◌∙◌}
 use mathlib.Core.Bool.{Bool, ◌&&◌}

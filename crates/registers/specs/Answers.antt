@@ -1,7 +1,6 @@
 -- Document 01, "Numbers that come back". Definitions only.
 use Rattle.std.specs.Prelude.{ℕ, ◌-◌, List, [], ◌∷◌, ◌++◌, length, get_or, replicate}
 use Prim.Native.String.{String}
-use Prim.Native.String as String
 use Prim.Native.Char.{code}
 use Rattle.registers.specs.declared.answer.Answer.{Answer}
 use Rattle.registers.specs.declared.answer.Text.{Text}

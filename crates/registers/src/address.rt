@@ -92,6 +92,7 @@ pub fn width(address: u32) -> usize
 }
 
 // The largest value of the register at an address.
+#[tactic(auto, using(crate::proofs::Widths::width_most, crate::proofs::Widths::bytes_bits))]
 pub fn largest(address: u32) -> u32
     ensures { result ≡ largest_of address }
 {
@@ -100,6 +101,7 @@ pub fn largest(address: u32) -> u32
 }
 
 // Whether a value is not too wide for the register at an address.
+#[tactic(auto, using(crate::proofs::Widths::largest_holds))]
 pub fn holds(address: u32, value: u32) -> bool
     ensures { result ≡ holds address value }
 {

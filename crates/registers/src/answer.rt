@@ -31,7 +31,7 @@ pub const NOT_READY: u32 = 12;
 pub const OVER: u32 = 13;
 
 // A number, and a value that is zero where the number is a refusal.
-#[derive(Drop)]
+#[derive(Clone, Copy)]
 pub struct Answer {
     pub number: u32,
     pub value: u32,
@@ -50,7 +50,7 @@ pub fn accepted(value: u32) -> Answer
 }
 
 // A name: the bytes below `length` are meant.
-#[derive(Drop)]
+#[derive(Clone, Copy)]
 pub struct Text {
     pub bytes: [u8; 9],
     pub length: usize,

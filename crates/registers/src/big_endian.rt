@@ -6,13 +6,15 @@ use crate::answer;
 use crate::answer::Answer;
 
 fn wide(x: u8) -> u32
-    ensures { (result ≡ x) × (result < 256) }
+    ensures value { result ≡ x }
+    ensures byte { result < 256 }
 {
     x as u32
 }
 
 fn value_at(bytes: &[u8], at: usize, width: usize) -> u32
-    requires { (width ≤ 4) × (at + width ≤ length bytes.now) }
+    requires narrow { width ≤ 4 }
+    requires within { at + width ≤ length bytes.now }
     ensures { result ≡ value_of (take width (drop at bytes.now)) }
 {
     let mut value: u32 = 0;
@@ -53,8 +55,10 @@ fn lay(bytes: &mut [u8], at: usize, width: usize, value: u32)
     }
 }
 
+#[tactic(auto, using(crate::proofs::Widths::bytes_bits))]
 fn judge(size: usize, at: usize, width: usize, value: u32) -> u32
-    ensures { (result ≡ write_number size at width value) × (result ≡ 0 → at + width ≤ size) }
+    ensures number { result ≡ write_number size at width value }
+    ensures fits { result ≡ 0 → at + width ≤ size }
 {
     if 4 < width {
         return answer::WORD;
@@ -72,6 +76,7 @@ fn judge(size: usize, at: usize, width: usize, value: u32) -> u32
 }
 
 // Writes a value in so many bytes from a place on.
+#[tactic(auto, using(crate::proofs::Laid::laid_nil))]
 pub fn write(bytes: &mut [u8], at: usize, width: usize, value: u32) -> u32
     ensures { Writes bytes.old at width value result bytes.new }
 {

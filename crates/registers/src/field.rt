@@ -5,13 +5,14 @@ ghost use Rattle.registers.specs.Fields.{field_of, with_field, fits_field, set_o
 use crate::answer::Answer;
 use crate::{address, answer};
 
-#[derive(Drop)]
+#[derive(Clone, Copy)]
 pub struct Field {
     pub position: u32,
     pub width: u32,
 }
 
 // What stands in a field of a word.
+#[tactic(auto, using(crate::proofs::Fields::get_past, crate::proofs::Fields::get_wide), unfolding(crate::specs::Fields::field_of))]
 pub fn get(word: u32, field: Field) -> u32
     ensures { result ≡ field_of word field }
 {
@@ -27,7 +28,9 @@ pub fn get(word: u32, field: Field) -> u32
 
 // Whether the field lies within 32 bits and the value is not too wide for it.
 fn takes(field: Field, value: u32) -> bool
-    ensures { (result ≡ fits_field field value) × (result ≡ true → (value < 2 ^ field.width) × (field.position + field.width ≤ 32)) }
+    ensures tests { result ≡ fits_field field value }
+    ensures narrow { result ≡ true → value < 2 ^ field.width }
+    ensures within { result ≡ true → field.position + field.width ≤ 32 }
 {
     if 32 < field.position {
         return false;
@@ -38,8 +41,10 @@ fn takes(field: Field, value: u32) -> bool
     (value as u64) < crate::power(field.width)
 }
 
+#[tactic(auto, using(crate::proofs::Fields::tail_lt, crate::proofs::Fields::set_lt), unfolding(crate::specs::Fields::with_field))]
 fn placed(word: u32, field: Field, value: u32) -> u32
-    requires { (value < 2 ^ field.width) × (field.position + field.width ≤ 32) }
+    requires narrow { value < 2 ^ field.width }
+    requires within { field.position + field.width ≤ 32 }
     ensures { result ≡ with_field word field value }
 {
     let w = word as u64;

@@ -1,4 +1,6 @@
 // The AD9959's registers: addresses, widths, fields, and the numbers that come back.
+#![tactic(auto)]
+
 ghost use Rattle.std.specs.Prelude.{◌^◌, ◌<◌, ◌≤◌, ◌≡◌};
 
 pub mod address;
@@ -9,7 +11,9 @@ pub mod field;
 // 2^k.
 fn power(k: u32) -> u64
     requires { k ≤ 32 }
-    ensures { (result ≡ 2 ^ k) × (0 < result) × (result ≤ 4294967296) }
+    ensures value { result ≡ 2 ^ k }
+    ensures positive { 0 < result }
+    ensures within { result ≤ 2 ^ 32 }
 {
     1u64 << k
 }

@@ -8,7 +8,8 @@ use crate::{Tuning, Value};
 use registers::answer;
 
 pub fn word(tuning: Tuning) -> Value
-    ensures { (result ≡ word_of tuning) × Held CFTW0 result }
+    ensures value { result ≡ word_of tuning }
+    ensures held { Held CFTW0 result }
 {
     match tuning {
         Tuning::Tune(z) => Value::Given(crate::bits(z)),
@@ -17,7 +18,8 @@ pub fn word(tuning: Tuning) -> Value
 }
 
 fn cost(value: Value, size: usize) -> usize
-    ensures { (result ≡ cost value size) × (result ≤ size) }
+    ensures value { result ≡ cost value size }
+    ensures within { result ≤ size }
 {
     match value {
         Value::Given(_v) => size,
@@ -27,7 +29,8 @@ fn cost(value: Value, size: usize) -> usize
 
 // How many bytes a push takes.
 pub fn size(word: Value, phase: Value, acr: Value) -> usize
-    ensures { (result ≡ push_size word phase acr) × (result ≤ 14) }
+    ensures value { result ≡ push_size word phase acr }
+    ensures within { result ≤ 14 }
 {
     2 + cost(word, 5) + cost(phase, 3) + cost(acr, 4)
 }
@@ -42,6 +45,7 @@ fn above(most: u32, value: Value) -> bool
 }
 
 // The number of a push. Of Ok it is known besides what the push goes on to need.
+#[tactic(auto, using(crate::proofs::Lengths::held_below), unfolding(crate::specs::Rules::push_number, registers::specs::Registers::width_of))]
 pub fn push(mode: u32, length: usize, mask: u32, word: Value, phase: Value, acr: Value) -> u32
     ensures { PushJudged mode length mask word phase acr result }
 {
@@ -69,12 +73,14 @@ pub fn push(mode: u32, length: usize, mask: u32, word: Value, phase: Value, acr:
 
 // How many words a profile takes once it is padded: none, one, one or two more by the length modulo 4.
 pub fn quarter(length: usize) -> usize
-    ensures { (result ≡ quarter length) × (result * 4 ≡ length + padding length) }
+    ensures value { result ≡ quarter length }
+    ensures whole { result * 4 ≡ length + padding length }
 {
     length / 4 + (length % 4 + 1) / 2
 }
 
 // The number of a finalising. Of Ok it is known besides what finalising goes on to need.
+#[tactic(auto, using(crate::proofs::Lengths::padding_fits), unfolding(crate::specs::Rules::finalize_number))]
 pub fn finalize(mode: u32, length: usize, words: usize) -> u32
     ensures { FinalizeJudged mode length words result }
 {

@@ -1,18 +1,20 @@
 // The rules of a step: how long it is, and what it gives back.
+#![tactic(auto)]
+
 ghost use Rattle.std.specs.Prelude.{◌≡◌};
 ghost use Rattle.rules.specs.Rules.{bits_of, signed_of, word_of, push_size};
 
 pub mod judge;
 
 // A tuning word, if one is given.
-#[derive(Drop)]
+#[derive(Clone, Copy)]
 pub enum Tuning {
     Tune(i32),
     Keep,
 }
 
 // A phase word or an ACR, if one is given.
-#[derive(Drop)]
+#[derive(Clone, Copy)]
 pub enum Value {
     Given(u32),
     Absent,
