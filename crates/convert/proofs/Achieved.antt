@@ -1,8 +1,8 @@
 -- What a setting achieved is what reading the written word back gives, and where an amplitude reads as 1.0.
---     asf-most        an amplitude in 0.0 ..= 1.0 has a scale factor of at most 1024
---     acr-meaning     the ACR of a scale factor means it over 1024
---     frequency-back, phase-back, amplitude-back   reading the word of a setting gives what the setting achieved
---     one-off, off-one   an ACR means 1.0 exactly where its multiplier bit is off
+--     asf_most        an amplitude in 0.0 ..= 1.0 has a scale factor of at most 1024
+--     acr_meaning     the ACR of a scale factor means it over 1024
+--     frequency_back, phase_back, amplitude_back   reading the word of a setting gives what the setting achieved
+--     one_off, off_one   an ACR means 1.0 exactly where its multiplier bit is off
 use mathlib.Core.Path.{◌≡◌, refl, subst}
 use mathlib.Core.Logic.{inl, inr}
 use mathlib.Core.Bool.{Bool, true, false, cond}

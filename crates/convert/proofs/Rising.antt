@@ -1,9 +1,9 @@
 -- A larger value is cut to no smaller a number.
---     cut-mono       a larger float
+--     cut_mono       a larger float
 --     negative       what rounds with a minus sign is cut to 0
---     product-mono   a larger factor of a product, the other factor above zero
+--     product_mono   a larger factor of a product, the other factor above zero
 --     accepted       a frequency that gets Ok: the ratio is ready, and the setting is the word and its meaning
---     word-mono      on one ratio a larger accepted frequency never gets a smaller word
+--     word_mono      on one ratio a larger accepted frequency never gets a smaller word
 use mathlib.Core.Path.{◌≡◌, refl, sym, ap, ◌∙◌}
 use mathlib.Core.Bool.{Bool, true, false, ◌&&◌, ◌||◌, cond}
 use Prim.Native.Nat.{ℕ, zero, suc, ◌-◌, ◌*◌, ◌/◌, ◌^◌, ◌≤◌, ◌<◌, zero-le, min}

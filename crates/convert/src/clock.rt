@@ -5,7 +5,7 @@ ghost use Rattle.convert.specs.Clock.{system_of, allowed, vco_high_of, clock_of}
 use registers::answer;
 
 // A system clock, FR1's vco_high for it, and the driver's ratio; zeros beside a refusal.
-#[derive(Drop)]
+#[derive(Clone, Copy)]
 pub struct Clock {
     pub number: u32,
     pub system: f32,
@@ -23,7 +23,8 @@ fn system(reference: f32, multiplier: u32) -> f32
 
 // The range rule of each multiplier.
 fn allowed(reference: f32, multiplier: u32) -> bool
-    ensures { (result ≡ allowed reference multiplier) × (result ≡ true → multiplier ≤ 20) }
+    ensures rule { result ≡ allowed reference multiplier }
+    ensures small { result ≡ true → multiplier ≤ 20 }
 {
     if multiplier == 1 {
         return binary32::within(1e6, reference, 500e6);

@@ -1,4 +1,6 @@
 // From floats to register words and back: clock, frequency, phase, amplitude.
+#![tactic(auto)]
+
 ghost use Rattle.std.specs.Prelude.{◌≡◌};
 ghost use Rattle.convert.specs.Results.{refused, set, unread, read};
 
@@ -8,7 +10,7 @@ pub mod frequency;
 pub mod phase;
 
 // A register's word and the value that it achieves; zeros beside a refusal.
-#[derive(Drop)]
+#[derive(Clone, Copy)]
 pub struct Setting {
     pub number: u32,
     pub word: u32,
@@ -16,14 +18,14 @@ pub struct Setting {
 }
 
 // What a register's word means; zero beside a refusal.
-#[derive(Drop)]
+#[derive(Clone, Copy)]
 pub struct Reading {
     pub number: u32,
     pub value: f32,
 }
 
 // The driver's record.
-#[derive(Drop)]
+#[derive(Clone, Copy)]
 pub struct Driver {
     pub mode: u32,
     pub ratio: f32,

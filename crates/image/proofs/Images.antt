@@ -1,11 +1,11 @@
 -- What writes make of an image.
---     length-give, length-write, length-apply   it keeps its length
---     apply-append                              lists of writes go one after the other
---     give-stays                                a word that no selected channel's register stands at stays
+--     length_give, length_write, length_apply   it keeps its length
+--     apply_append                              lists of writes go one after the other
+--     give_stays                                a word that no selected channel's register stands at stays
 --     misses                                    a word that no channel's register stands at is reached by no mask
---     selected-give                             a register from 0x03 up leaves the selection
---     selected-select                           CSR set to a mask selects it
---     past-stays                                feeding leaves the words from 91 on, whatever the stream
+--     selected_give                             a register from 0x03 up leaves the selection
+--     selected_select                           CSR set to a mask selects it
+--     past_stays                                feeding leaves the words from 91 on, whatever the stream
 use mathlib.Core.Path.{◌≡◌, refl, ◌∙◌, subst}
 use mathlib.Core.Logic.{◌≢◌}
 use mathlib.Core.Bool.{Bool, true, false, cond, not, ◌&&◌, ◌||◌}

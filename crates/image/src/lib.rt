@@ -1,4 +1,6 @@
 // The chip's registers as 91 words, and a stream fed to them.
+#![tactic(auto)]
+
 ghost use Rattle.std.specs.Prelude.{◌≡◌, cond, ◌<◌, ◌≤◌, length, set};
 ghost use Rattle.registers.specs.Registers.{wrote};
 ghost use Rattle.stream.specs.Decoder.{decode_of};
@@ -22,7 +24,8 @@ fn set_if(image: &mut [u32], on: bool, at: usize, value: u32)
 
 // Register a of each channel that the mask selects is set to a value.
 fn give(image: &mut [u32], mask: u32, a: usize, value: u32)
-    requires { (91 ≤ length image.old) × (a < 25) }
+    requires long { 91 ≤ length image.old }
+    requires named { a < 25 }
     ensures { image.new ≡ give mask a value image.old }
 {
     set_if(image, mask % 2 == 1, a, value);
@@ -32,7 +35,8 @@ fn give(image: &mut [u32], mask: u32, a: usize, value: u32)
 }
 
 fn write(image: &mut [u32], address: u32, value: u32)
-    requires { (91 ≤ length image.old) × (address < 25) }
+    requires long { 91 ≤ length image.old }
+    requires named { address < 25 }
     ensures { image.new ≡ write (wrote address value) image.old }
 {
     let at = address as usize;

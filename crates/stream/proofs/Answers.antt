@@ -18,8 +18,8 @@ module _ (bytes a v : List ℕ) where
         record { answer = simp (h, e); filled = simp (h, e) (filled_none a v) }
 
     module _ (k : length (decode_of bytes).writes ≤ length a) where
-      pub no-room-2 : length v < length (decode_of bytes).writes → Decodes bytes a v (record { number = 9; count = 0 }) a v
-      no-room-2 l =
+      pub no_room_2 : length v < length (decode_of bytes).writes → Decodes bytes a v (record { number = 9; count = 0 }) a v
+      no_room_2 l =
           let e = le-ltb (length a) (length (decode_of bytes).writes) k in
           let f = lt-ltb (length v) (length (decode_of bytes).writes) l in
           record { answer = simp (h, e, f); filled = simp (h, e, f) (filled_none a v) }

@@ -1,7 +1,7 @@
 -- One write laid over bytes.
 --     bad         a bad write: its fault
---     no_place, value-laid, value-refused   a good write, by what became of its value's bytes
---     lays-good   a good write that fits is laid
+--     no_place, value_laid, value_refused   a good write, by what became of its value's bytes
+--     lays_good   a good write that fits is laid
 use mathlib.Core.Path.{◌≡◌, refl, sym, ap, ◌∙◌}
 use mathlib.Core.Bool.{Bool, true, false, cond}
 use mathlib.Core.List.{List, [], ◌∷◌}

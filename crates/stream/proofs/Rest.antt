@@ -1,8 +1,8 @@
 -- The writes of two lists that are left from an index on, and their faults.
---     rest-zero, rest_end, rest-cons   all, none, and one more
---     fault-here, fault-later          the first bad write decides
---     good-head                        the first of good writes is good, and so are the others
---     fault-none, fault-clear          a write has no fault exactly if it names a register that holds its value
+--     rest_zero, rest_end, rest_cons   all, none, and one more
+--     fault_here, fault_later          the first bad write decides
+--     good_head                        the first of good writes is good, and so are the others
+--     fault_none, fault_clear          a write has no fault exactly if it names a register that holds its value
 use mathlib.Core.Path.{◌≡◌, refl}
 use mathlib.Core.Bool.{Bool, true, false, cond}
 use mathlib.Core.List.{List, [], ◌∷◌}

@@ -1,6 +1,6 @@
 -- Decoding takes an encoding back to its writes, and encoding takes what was decoded back to its bytes.
---     decode-encode   the encoding of good writes decodes to them
---     encode-decode   what decodes is the encoding of its writes
+--     decode_encode   the encoding of good writes decodes to them
+--     encode_decode   what decodes is the encoding of its writes
 use mathlib.Core.Path.{◌≡◌, refl, sym, ◌∙◌}
 use mathlib.Core.Bool.{Bool, true, false}
 use mathlib.Core.List.{List, [], ◌∷◌, ◌++◌, append-nil, append_assoc}

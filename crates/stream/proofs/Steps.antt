@@ -1,6 +1,6 @@
 -- What stands at a place of a stream, by the tests that tell.
---     at-end, at_address   the end, and a first byte above 0x18
---     at-fault, at_one     a value that is cut off, and a write
+--     at_end, at_address   the end, and a first byte above 0x18
+--     at_fault, at_one     a value that is cut off, and a write
 --     one_address          a write's address is a register's
 use mathlib.Core.Path.{◌≡◌, refl}
 use mathlib.Core.Bool.{Bool, true, false}

@@ -1,7 +1,7 @@
 -- The bytes of writes.
---     length-write   one byte more than the register's width
---     encode_one, encode-append   streams one after the other
---     size-cons      what a write adds to a stream's length
+--     length_write   one byte more than the register's width
+--     encode_one, encode_append   streams one after the other
+--     size_cons      what a write adds to a stream's length
 use mathlib.Core.Path.{◌≡◌, refl, ap}
 use mathlib.Core.List.{List, [], ◌∷◌, ◌++◌, append-nil, append_assoc}
 use Prim.Native.Nat.{suc, ◌+◌}

@@ -1,4 +1,6 @@
 // Register writes to bytes and back.
+#![tactic(auto)]
+
 ghost use Rattle.std.specs.Prelude.{◌≡◌, ◌^◌, ◌<◌, ◌≤◌, length, drop};
 ghost use Rattle.registers.specs.Bytes.{laid};
 ghost use Rattle.registers.specs.Registers.{wrote, width_of};
@@ -9,7 +11,7 @@ ghost use Rattle.stream.specs.Encoder.{write_fault, Lays, pairs, size_of, Fit, E
 use registers::{address, answer, big_endian};
 
 // What stands at a place of a stream: a write of so many bytes behind its address, a fault's number, or the end.
-#[derive(Drop)]
+#[derive(Clone, Copy)]
 pub enum Step {
     One {
         address: u32,
@@ -21,21 +23,24 @@ pub enum Step {
 }
 
 // A number, and a count that is zero where the number is a refusal.
-#[derive(Drop)]
+#[derive(Clone, Copy)]
 pub struct Tally {
     pub number: u32,
     pub count: usize,
 }
 
 fn wide(x: u8) -> u32
-    ensures { (result ≡ x) × (result < 256) }
+    ensures value { result ≡ x }
+    ensures byte { result < 256 }
 {
     x as u32
 }
 
 // What stands at a place.
+#[tactic(auto, using(crate::proofs::Steps::at_end, crate::proofs::Steps::at_address))]
 pub fn step_at(bytes: &[u8], at: usize) -> Step
-    ensures { (result ≡ step_of (drop at bytes.now)) × Within bytes.now at result }
+    ensures step { result ≡ step_of (drop at bytes.now) }
+    ensures within { Within bytes.now at result }
 {
     if bytes.len() <= at {
         return Step::End;
@@ -87,7 +92,8 @@ pub fn scan(bytes: &[u8]) -> Tally
 
 // Writes the addresses and the values to the fronts of the two buffers.
 fn fill(bytes: &[u8], addresses: &mut [u32], values: &mut [u32])
-    requires { (length (decode_of bytes.now).writes ≤ length addresses.old) × (length (decode_of bytes.now).writes ≤ length values.old) }
+    requires addresses { length (decode_of bytes.now).writes ≤ length addresses.old }
+    requires values { length (decode_of bytes.now).writes ≤ length values.old }
     ensures { Filled (decode_of bytes.now).writes addresses.old values.old addresses.new values.new }
 {
     let mut at = 0;
@@ -115,6 +121,7 @@ fn fill(bytes: &[u8], addresses: &mut [u32], values: &mut [u32])
 }
 
 // Decodes a stream into two buffers: the number, and how many writes there are.
+#[tactic(auto, using(crate::proofs::Fronts::filled_none))]
 pub fn decode(bytes: &[u8], addresses: &mut [u32], values: &mut [u32]) -> Tally
     ensures { Decodes bytes.now addresses.old values.old result addresses.new values.new }
 {
@@ -140,7 +147,9 @@ pub fn decode(bytes: &[u8], addresses: &mut [u32], values: &mut [u32]) -> Tally
 
 // Address, then Word, of a bad write.
 fn fault(address: u32, value: u32) -> u32
-    ensures { (result ≡ write_fault (wrote address value)) × (result ≡ 0 → (address < 25) × (value < 256 ^ width_of address)) }
+    ensures fault { result ≡ write_fault (wrote address value) }
+    ensures named { result ≡ 0 → address < 25 }
+    ensures held { result ≡ 0 → value < 256 ^ width_of address }
 {
     if 24 < address {
         return answer::ADDRESS;
@@ -172,7 +181,8 @@ pub fn lay(bytes: &mut [u8], at: usize, address: u32, value: u32) -> u32
 
 // The first bad write's number, or how many bytes the writes take.
 fn measure(addresses: &[u32], values: &[u32], count: usize) -> Tally
-    requires { (count ≤ length addresses.now) × (count ≤ length values.now) }
+    requires addresses { count ≤ length addresses.now }
+    requires values { count ≤ length values.now }
     ensures { result ≡ size_of (pairs count addresses.now values.now) }
 {
     let mut i = 0;
@@ -210,6 +220,7 @@ fn lay_each(addresses: &[u32], values: &[u32], count: usize, bytes: &mut [u8])
 }
 
 // Encodes writes into a buffer: the number, and how many bytes they take.
+#[tactic(auto, using(registers::proofs::Laid::laid_nil))]
 pub fn encode(addresses: &[u32], values: &[u32], count: usize, bytes: &mut [u8]) -> Tally
     ensures { Encodes count addresses.now values.now bytes.old result bytes.new }
 {
