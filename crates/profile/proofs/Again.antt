@@ -1,5 +1,5 @@
 -- Finalising again adds nothing.
---     finalize-again   of a serializer that was finalised, finalising into any buffer gives the same serializer
+--     finalize_again   of a serializer that was finalised, finalising into any buffer gives the same serializer
 use mathlib.Core.Path.{◌≡◌, refl}
 use mathlib.Core.Bool.{Bool, true, false, cond}
 use Prim.Native.Nat.{ℕ, ◌+◌, ◌%◌}

@@ -1,18 +1,18 @@
 -- What the walks of the in-place functions share. No line looks into the serializer: its machine value is the one that its laws spell.
 --     through                    a walk of a function that calls one other, taken to the function's theorem
 --     asks                       what a callee with no `requires` asks, from the tokens and what the arguments own
---     free-at                    a local is freed, its cell at a place of the context
+--     free_at                    a local is freed, its cell at a place of the context
 --     mach, IsSer, typed, made   a serializer's machine value;  it is related to that;  it has the struct's type;  what it owns is had for nothing
 --     ref                        a `&mut` to a serializer
---     opens-self, closes-self    a `&mut` that came in is opened, and closed at another serializer
---     lends-self, comes-self     a local is lent for a lifetime that is made here;  the lifetime is ended, and the local has the last serializer
+--     opens_self, closes_self    a `&mut` that came in is opened, and closed at another serializer
+--     lends_self, comes_self     a local is lent for a lifetime that is made here;  the lifetime is ended, and the local has the last serializer
 --     Rest ..                    the arguments of a push beside the serializer: their types, machine values and relations, and what a walk says of them
---     words, words-val           the words of a finalising, lent, and their machine value;  last-words    what a callee says of their last list
+--     words, words_val           the words of a finalising, lent, and their machine value;  last_words    what a callee says of their last list
 use mathlib.Core.Path.{◌≡◌, refl, subst}
 use Prim.Native.Nat.{ℕ, zero}
 use mathlib.Core.List.{[], ◌∷◌, List}
 use seplogic.Ra.Ura.{Ura}
-use seplogic.Ra.TreeShare.{full_share}
+use base.Fraction.{full_share}
 use lib.Dec.{T as Holds}
 use lib.ListN.{length}
 use mir.Syntax.{Ty, Fn, named, w32}
@@ -23,7 +23,7 @@ use base.Fml.{Fml, GName, Lft, Share, ftrue, feq, fsep, fat, fdies, flft, fres, 
 use prog.Wp.{Env, Calls, Loops, Closed, WpFn}
 use prog.Model.{Model}
 use prog.Routine as routine
-use prog.Routine.{Name, Routine}
+use prog.Routine.{Callee, Routine}
 use types.Logic.{Logic}
 use contract.Running.{Running, tables, tables_of}
 use sound.WpLaws.{FmC, fm_of, WpFn-mono}
@@ -64,8 +64,8 @@ module _ {M : Type 1} {𝓤 : Ura M} (𝓛 : Logic 𝓤) (𝓜 : Model 𝓤 𝓛
   open 𝓛 use {H}
 
   pub through : AllGo 𝓛 E.signature.lifetimes E.signature.params E.kept hs
-      → (env : routine.Env) (k : Name) (fn : Fn) → Closed 𝓤 H (tables 𝓤 H 𝓜 𝓡 env).C (tables 𝓤 H 𝓜 𝓡 env).Λ k fn
-      → (G : Contract 𝓤) (g : Name) (r : Routine) → env g ≡ r → Triple 𝓤 (𝓡.run r) G
+      → (env : routine.Env) (k : Callee) (fn : Fn) → Closed 𝓤 H (tables 𝓤 H 𝓜 𝓡 env).C (tables 𝓤 H 𝓜 𝓡 env).Λ k fn
+      → (G : Contract 𝓤) (g : Callee) (r : Routine) → env g ≡ r → Triple 𝓤 (𝓡.run r) G
       → ((C : Calls 𝓤 H) (Λ : Loops 𝓤 H) → FmC 𝓤 H 𝓛.laws C → Triple 𝓤 (C g) G → Walks 𝓛 E hs (WpFn 𝓤 H C Λ fn) c)
       → Triple 𝓤 ((tables 𝓤 H 𝓜 𝓡 env).C k) (triple_of 𝓛 E.signature (closing 𝓛 E c))
   unfolding tables_of

@@ -2,7 +2,7 @@
 --     four_bytes   four bytes make a word, low byte first
 --     done         none left
 --     whole        all left
---     one_word .. four-words   so many stores
+--     one_word .. four_words   so many stores
 use mathlib.Core.Path.{◌≡◌, refl, sym, ap, ◌∙◌}
 use mathlib.Core.List.{List}
 use Prim.Native.Nat.{ℕ, zero, suc, ◌+◌, ◌*◌, ◌-◌, ◌≤◌, ◌<◌}

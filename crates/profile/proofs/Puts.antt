@@ -1,6 +1,6 @@
 -- Lists laid one behind another.
 --     puts_then    one run behind another
---     puts-ahead   one run before another that is there
+--     puts_ahead   one run before another that is there
 --     puts_none    nothing laid
 use mathlib.Core.Path.{◌≡◌, sym, ◌∙◌}
 use mathlib.Core.List.{List, [], ◌++◌}

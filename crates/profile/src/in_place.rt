@@ -5,7 +5,7 @@ ghost use Rattle.profile.specs.Serializer.{push_of, Finalizes};
 use crate::{Finalized, ProfileSerializer, Stepped, Tuning, Value};
 
 // What finalising gives beside the record that it changes.
-#[derive(Drop)]
+#[derive(Clone, Copy)]
 pub struct Sealed {
     pub number: u32,
     pub count: usize,

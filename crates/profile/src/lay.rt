@@ -10,6 +10,7 @@ use crate::Value;
 use registers::address;
 
 // A value's write, if it is given: the place behind it.
+#[tactic(auto, using(stream::proofs::Streams::length_write, stream::proofs::Rest::fault_clear, stream::proofs::Lays::lays_good, crate::proofs::Sizes::encode_given, crate::proofs::Sizes::encode_absent, crate::proofs::Sizes::length_given, crate::proofs::Puts::puts_none))]
 fn given(bytes: &mut [u8], at: usize, address: u32, value: Value) -> usize
     requires { (address < 25) × Held address value × (at + length (encode (given address value)) ≤ length bytes.old) }
     ensures { Puts bytes.old at (encode (given address value)) result bytes.new }
@@ -24,6 +25,7 @@ fn given(bytes: &mut [u8], at: usize, address: u32, value: Value) -> usize
 }
 
 // A push's writes, CSR's laid last: a value's bytes that are stored before what stands in front of them become one wide store.
+#[tactic(auto, using(stream::proofs::Streams::length_write, stream::proofs::Rest::fault_clear, stream::proofs::Lays::lays_good, crate::proofs::Sizes::length_given, crate::proofs::Sizes::encode_push, crate::proofs::Puts::puts_then, crate::proofs::Puts::puts_ahead), unfolding(registers::specs::Registers::width_of))]
 pub(crate) fn push(
     bytes: &mut [u8],
     at: usize,

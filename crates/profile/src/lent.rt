@@ -30,6 +30,7 @@ pub fn push(
 }
 
 // Pads the profile and hands it out as words.
+#[tactic(auto, using(registers::proofs::Laid::laid_nil, crate::proofs::Sizes::length_padding), unfolding(crate::specs::Serializer::finalized_of))]
 pub fn finalize(
     mode: u32,
     length: &mut usize,

@@ -1,4 +1,6 @@
 // The profile serializer: register writes collected in 32 bytes, to be sent as words.
+#![tactic(auto)]
+
 ghost use Rattle.std.specs.Prelude.{◌≡◌};
 ghost use Rattle.profile.specs.Serializer.{new_of, push_of, Finalizes, FeedsFrom};
 
@@ -11,7 +13,7 @@ pub mod lent;
 mod words;
 
 // A profile so far: the bytes below the length are meant.
-#[derive(Drop)]
+#[derive(Clone, Copy)]
 pub struct ProfileSerializer {
     pub mode: u32,
     pub length: usize,
@@ -19,14 +21,14 @@ pub struct ProfileSerializer {
 }
 
 // A number, and the serializer: as it was, where the number is a refusal.
-#[derive(Drop)]
+#[derive(Clone, Copy)]
 pub struct Stepped {
     pub number: u32,
     pub serializer: ProfileSerializer,
 }
 
 // The same with how many words were handed out.
-#[derive(Drop)]
+#[derive(Clone, Copy)]
 pub struct Finalized {
     pub number: u32,
     pub count: usize,

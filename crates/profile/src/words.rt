@@ -22,6 +22,7 @@ fn word_at(bytes: &[u8], at: usize) -> u32
 }
 
 // Of n words the four from i on: loads first and stores after, so that each four become one.
+#[tactic(auto, using(crate::proofs::Left::four_words))]
 fn four(bytes: &[u8], n: usize, i: usize, words: &mut [u32])
     requires { (n * 4 ≤ length bytes.now) × (n ≤ length words.old) × (n ≤ 8) × (i + 4 ≤ n) }
     ensures { left_of n (i + 4) words.new bytes.now ≡ left_of n i words.old bytes.now }
@@ -37,6 +38,7 @@ fn four(bytes: &[u8], n: usize, i: usize, words: &mut [u32])
 }
 
 // Of n words those from i on, at most three.
+#[tactic(auto, using(crate::proofs::Left::done, crate::proofs::Left::one_word, crate::proofs::Left::two_words, crate::proofs::Left::three_words))]
 fn rest(bytes: &[u8], n: usize, i: usize, words: &mut [u32])
     requires { (n * 4 ≤ length bytes.now) × (n ≤ length words.old) × (n ≤ 8) × (i ≤ n) × (n ≤ i + 3) }
     ensures { words.new ≡ left_of n i words.old bytes.now }
@@ -62,6 +64,7 @@ fn rest(bytes: &[u8], n: usize, i: usize, words: &mut [u32])
 }
 
 // The first n words, at most eight.
+#[tactic(auto, using(crate::proofs::Left::done, crate::proofs::Left::whole))]
 pub(crate) fn copy(bytes: &[u8], n: usize, words: &mut [u32])
     requires { (n * 4 ≤ length bytes.now) × (n ≤ length words.old) × (n ≤ 8) }
     ensures { words.new ≡ laid words.old 0 (words_of n bytes.now) }

@@ -2,7 +2,7 @@
 --     script       the bytes that a run leaves, fed to any image, end where the script's meaning says
 --     decodes      they decode, so feeding them is never refused
 --     run_length   at most 32 bytes are meant
---     run-bytes    the record keeps its 32 bytes
+--     run_bytes    the record keeps its 32 bytes
 -- Along a run some good writes are kept in mind: their encoding is the stream so far, and applied to the image they give what has been told so far.
 use mathlib.Core.Path.{◌≡◌, refl, ap, ◌∙◌}
 use mathlib.Core.Bool.{Bool, true, false, cond, ◌||◌, true≢false}

@@ -1,7 +1,7 @@
 -- A run of the code is a run of the definitions.
---     calls-run    calls that did what their contracts say end at the record that the steps' run gives
+--     calls_run    calls that did what their contracts say end at the record that the steps' run gives
 --     fed          what `profile::feed` gives and leaves, on the serializer that a run reaches
---     code-means   so what `new`, calls of `push` and `finalize` and then `feed` leave in an image is the steps' meaning, and feeding is not refused
+--     code_means   so what `new`, calls of `push` and `finalize` and then `feed` leave in an image is the steps' meaning, and feeding is not refused
 use mathlib.Core.Path.{◌≡◌, refl, ap, subst, ◌∙◌}
 use mathlib.Core.List.{List}
 use Prim.Native.Nat.{ℕ, ◌≤◌}

@@ -1,5 +1,5 @@
 -- Every register that no accepted step names stays as it was.
---     stays-accepted   the steps judged along the way
+--     stays_accepted   the steps judged along the way
 --     stays            where no step names it, accepted or not
 use mathlib.Core.Path.{◌≡◌, refl, ◌∙◌}
 use mathlib.Core.Logic.{◌≢◌}

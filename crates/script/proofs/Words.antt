@@ -1,6 +1,6 @@
 -- A buffer of more than eight words is as good as one of eight.
---     enough-words       the number is the same
---     enough-finalized   and so is the record
+--     enough_words       the number is the same
+--     enough_finalized   and so is the record
 use mathlib.Core.Path.{◌≡◌, refl, sym, ap, ◌∙◌}
 use mathlib.Core.Bool.{Bool, true, false, cond, ◌||◌}
 use Prim.Native.Nat.{ℕ, ◌+◌, ◌≤◌, min}

@@ -1,4 +1,6 @@
 // What a script means, and scripts played on a new serializer.
+#![tactic(auto)]
+
 ghost use Rattle.std.specs.Prelude.{◌≡◌, cond, min, eqb};
 ghost use Rattle.script.specs.Play.{step_at, Steps};
 
@@ -7,7 +9,7 @@ use profile::{ProfileSerializer, Stepped, Tuning, Value};
 pub mod play;
 
 // A step of a script: a push, or a finalisation into a buffer of so many words.
-#[derive(Drop)]
+#[derive(Clone, Copy)]
 pub enum Step {
     Push {
         mask: u32,
@@ -41,6 +43,7 @@ fn given(bit: u32, value: u32) -> Value
 }
 
 // A step as numbers: kind 0 is a push, any other a finalisation into a buffer of `mask` words.
+#[tactic(auto, unfolding(crate::specs::Play::step_at))]
 pub fn step_of(kind: u32, mask: u32, presence: u32, word: i32, phase: u32, acr: u32) -> Step
     ensures { result ≡ step_at kind mask presence word phase acr }
 {
@@ -78,6 +81,7 @@ fn finalize(serializer: ProfileSerializer, words: usize) -> Stepped
 }
 
 // One step, on the code of `profile`.
+#[tactic(auto, unfolding(crate::specs::Meaning::number_at, crate::specs::Runs::step_of, profile::specs::Serializer::push_of))]
 pub fn step_by(serializer: ProfileSerializer, step: Step) -> Stepped
     ensures { Steps serializer step result }
 {

@@ -74,6 +74,7 @@ fn run(
 }
 
 // Plays so many steps on a new serializer and feeds its bytes to an image.
+#[tactic(auto, using(crate::proofs::Plays::refused, crate::proofs::Plays::played))]
 pub fn play(
     mode: u32,
     count: usize,
