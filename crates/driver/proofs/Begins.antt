@@ -1,11 +1,11 @@
 -- What is made of a setting or a reading that is asked for, and what is refused.
---     mode-first, then-mask, then-number   what is refused, in this order, and nothing is handed out of it
---     else-begins                          else it begins
+--     mode_first, then_mask, then_number   what is refused, in this order, and nothing is handed out of it
+--     else_begins                          else it begins
 --     begins                               what is made is legal and stands at its first step
---     set-frequency-achieves, set-phase-achieves, set-amplitude-achieves   two good replies give what the setting achieved
---     get-frequency-means, get-phase-means, get-amplitude-means            they give what the word that came back means
+--     set_frequency_achieves, set_phase_achieves, set_amplitude_achieves   two good replies give what the setting achieved
+--     get_frequency_means, get_phase_means, get_amplitude_means            they give what the word that came back means
 use mathlib.Core.Path.{◌≡◌, refl, ap}
-use mathlib.Core.Bool.{Bool, true, false, cond, not}
+use mathlib.Core.Bool.{Bool, true, false, cond}
 use mathlib.Core.List.{List, []}
 use mathlib.Core.Logic.{◌≢◌}
 use Prim.Native.Nat.{ℕ, ◌^◌, ◌≤◌, ◌<◌}

@@ -1,6 +1,6 @@
 -- A channel setting or reading: its table, and how a reply goes.
 --     follows                     the sequence follows its table, so every law of `bus`'s Runs holds of it
---     in-range                    a legal one's mode is at most 3, its CSR is the mask's byte, and its register is a channel's
+--     in_range                    a legal one's mode is at most 3, its CSR is the mask's byte, and its register is a channel's
 --     planned                     what the code plans is the table
 --     over, faulty, moved, done   the four ways a reply goes
 --     carries                     the record that comes back is the run's next
@@ -25,9 +25,6 @@ use Rattle.bus.specs.declared.Reply.{Reply}
 use Rattle.bus.specs.Bus.{fault_of}
 use Rattle.bus.specs.Sequence.{action, after}
 use Rattle.bus.proofs.Runs.{Follows, answered}
-use Rattle.convert.specs.Frequency as frequency
-use Rattle.convert.specs.Phase as phase
-use Rattle.convert.specs.Amplitude as amplitude
 use Rattle.driver.specs.declared.channel.Transfer.{Transfer}
 use Rattle.driver.specs.declared.channel.Transferred.{Transferred}
 use Rattle.driver.specs.Channel.{entry, table, own, takes, legal, at, sequence, action_of, word_of, meaning_of, replied, reply_of}

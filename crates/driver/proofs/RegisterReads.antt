@@ -1,8 +1,8 @@
 -- Reading CSR or FR1 is one action, so of any run, whatever the replies are:
 --     one          it is the read, and nothing more is handed out
---     read-well    a good reply ends it with the value
---     read-failed  a failed one ends it with Interface, read_wide a value too wide with Word
---     on-chip      an image is left as it was
+--     read_well    a good reply ends it with the value
+--     read_failed  a failed one ends it with Interface, read_wide a value too wide with Word
+--     on_chip      an image is left as it was
 use mathlib.Core.Path.{◌≡◌, refl, ap}
 use mathlib.Core.Bool.{true, false}
 use mathlib.Core.List.{List, [], ◌∷◌}

@@ -1,13 +1,13 @@
 -- A legal channel setting or reading at its first step, for any list of replies.
---     first-action                              it hands out the write of CSR
---     first_good, second-good                   a good reply answers Ok; the second ends it with the meaning of the word that was written or read
---     first-failed, second-failed, second-wide  a failed reply ends it with Interface, a value too wide for the register that is read with Word
+--     first_action                              it hands out the write of CSR
+--     first_good, second_good                   a good reply answers Ok; the second ends it with the meaning of the word that was written or read
+--     first_failed, second_failed, second_wide  a failed reply ends it with Interface, a value too wide for the register that is read with Word
 --     exactly        what is handed out: CSR's write, and the entry where the first reply did not fail; whatever comes after
---     whole-table    with two good replies it is the table
---     nothing-more   after a failed reply nothing more is handed out
---     on-chip        what it leaves of an image: unanswered-selects, failed-selects, get-selects: the channels are selected, and no more
+--     whole_table    with two good replies it is the table
+--     nothing_more   after a failed reply nothing more is handed out
+--     on_chip        what it leaves of an image: unanswered_selects, failed_selects, get_selects: the channels are selected, and no more
 --     set_gives      with a good first reply each selected channel's register has the word
---     word-stays     every word but CSR and those stays
+--     word_stays     every word but CSR and those stays
 use mathlib.Core.Path.{◌≡◌, refl, sym, ap, ◌∙◌}
 use mathlib.Core.Bool.{Bool, true, false, cond, not}
 use mathlib.Core.List.{List, [], ◌∷◌, ◌++◌}
@@ -29,9 +29,6 @@ use Rattle.bus.specs.declared.Reply.{Reply}
 use Rattle.bus.specs.Bus.{fault_of}
 use Rattle.bus.specs.Sequence.{shown, action, after, acts, writes}
 use Rattle.bus.proofs.Runs.{good, failed, hands_nothing, in_time, fault_ends}
-use Rattle.convert.specs.Frequency as frequency
-use Rattle.convert.specs.Phase as phase
-use Rattle.convert.specs.Amplitude as amplitude
 use Rattle.image.specs.Image.{reaches, give, selected, select, apply}
 use Rattle.image.proofs.Images.{give_stays, selected_select}
 use Rattle.driver.specs.declared.channel.Access.{Access}
@@ -39,7 +36,7 @@ use Rattle.driver.specs.declared.channel.Access.TheVariants.{Set, Get}
 use Rattle.driver.specs.declared.channel.Transfer.{Transfer}
 use Rattle.driver.specs.declared.channel.Transferred.{Transferred}
 use Rattle.driver.proofs.Channels.{follows, in_range, faulty, moved, done, carries, legal_at}
-use Rattle.driver.specs.Channel.{entry, table, legal, at, sequence, action_of, handed, word_of, meaning_of, replied, reply_of}
+use Rattle.driver.specs.Channel.{entry, table, legal, at, sequence, action_of, word_of, meaning_of, replied, reply_of}
 
 -- a value that comes back with the second reply counts only where the register is read
 abbrev pub Held : ℕ → Access → ℕ → Type 0

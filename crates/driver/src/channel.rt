@@ -8,13 +8,13 @@ use convert::{Driver, amplitude, frequency, phase};
 use registers::{address, answer};
 
 // What is done with the register: a word written to it, or its word read.
-#[derive(Drop)]
+#[derive(Clone, Copy)]
 pub enum Access {
     Set(u32),
     Get,
 }
 
-#[derive(Drop)]
+#[derive(Clone, Copy)]
 pub struct Transfer {
     pub step: u32,
     pub mode: u32,
@@ -24,14 +24,14 @@ pub struct Transfer {
     pub ratio: f32,
 }
 
-#[derive(Drop)]
+#[derive(Clone, Copy)]
 pub enum Begun {
     Sequence(Transfer),
     Refused(u32),
 }
 
 // A number, whether the transfer has ended well, the value achieved or read, and the sequence.
-#[derive(Drop)]
+#[derive(Clone, Copy)]
 pub struct Transferred {
     pub number: u32,
     pub done: bool,
@@ -146,6 +146,7 @@ fn takes(register: u32, access: Access) -> bool
     }
 }
 
+#[tactic(auto, unfolding(crate::specs::Channel::legal))]
 fn legal(sequence: Transfer) -> bool
     ensures { result ≡ legal sequence }
 {
@@ -167,6 +168,7 @@ fn entry(register: u32, access: Access) -> Action
     }
 }
 
+#[tactic(auto, using(crate::proofs::Channels::planned), unfolding(bus::specs::Sequence::action))]
 pub fn action(sequence: Transfer) -> Action
     ensures { result ≡ action_of sequence }
 {
@@ -235,6 +237,7 @@ fn replied(number: u32, sequence: Transfer) -> Transferred
     }
 }
 
+#[tactic(auto, using(bus::proofs::Runs::answered), unfolding(crate::specs::Channel::reply_of, bus::specs::Sequence::after))]
 pub fn reply(sequence: Transfer, reply: Reply) -> Transferred
     ensures { result ≡ reply_of sequence reply }
 {

@@ -1,4 +1,6 @@
 // What a driver that is up does: settings and readings, register reads, and freezing.
+#![tactic(auto)]
+
 ghost use Rattle.std.specs.Prelude.{◌≡◌};
 ghost use Rattle.driver.specs.Driver.{freeze_of};
 

@@ -6,14 +6,14 @@ ghost use Rattle.driver.specs.Register.{start, action_of, reply_of};
 use bus::{Action, Reply};
 use registers::{address, answer};
 
-#[derive(Drop)]
+#[derive(Clone, Copy)]
 pub struct Register {
     pub step: u32,
     pub address: u32,
 }
 
 // A number, whether the register has been read, its value, and the sequence.
-#[derive(Drop)]
+#[derive(Clone, Copy)]
 pub struct Found {
     pub number: u32,
     pub done: bool,
@@ -39,6 +39,7 @@ pub fn fr1() -> Register
     }
 }
 
+#[tactic(auto, unfolding(bus::specs::Sequence::action))]
 pub fn action(sequence: Register) -> Action
     ensures { result ≡ action_of sequence }
 {
@@ -51,6 +52,7 @@ pub fn action(sequence: Register) -> Action
     Action::Read(sequence.address)
 }
 
+#[tactic(auto, using(bus::proofs::Runs::answered), unfolding(crate::specs::Register::reply_of, bus::specs::Sequence::after))]
 pub fn reply(sequence: Register, reply: Reply) -> Found
     ensures { result ≡ reply_of sequence reply }
 {

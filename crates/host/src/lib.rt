@@ -1,4 +1,6 @@
 // The four kinds of sequence as one, so that a host's one loop plays any of them.
+#![tactic(auto)]
+
 ghost use Rattle.std.specs.Prelude.{◌≡◌};
 ghost use Rattle.host.specs.Host.{action_of, reply_of, started_of, transferred_of, found_of, tested_of};
 
@@ -10,7 +12,7 @@ use driver::{channel, register};
 use self_test::{SelfTest, Tested};
 use startup::{Made, Started, Startup};
 
-#[derive(Drop)]
+#[derive(Clone, Copy)]
 pub enum Sequence {
     Startup(Startup),
     Transfer(Transfer),
@@ -19,7 +21,7 @@ pub enum Sequence {
 }
 
 // What a reply brings besides its number, once a sequence ends well.
-#[derive(Drop)]
+#[derive(Clone, Copy)]
 pub enum Outcome {
     Nothing,
     Driver(Driver),
@@ -29,7 +31,7 @@ pub enum Outcome {
 }
 
 // A number, what it brings, and the sequence.
-#[derive(Drop)]
+#[derive(Clone, Copy)]
 pub struct Step {
     pub number: u32,
     pub outcome: Outcome,

@@ -4,7 +4,7 @@
 --     goes        good replies whose channel bits are those that were written lead it to its last step, and a good reply there passes it
 --     differing   a read whose channel bits differ ends it with Ok and false, and the old byte is not restored
 --     passed      where a reply passes it, the whole table has been handed out
---     on-chip     and CSR is left at the byte that was read first, every other register as it was
+--     on_chip     and CSR is left at the byte that was read first, every other register as it was
 use mathlib.Core.Path.{◌≡◌, refl, sym, ap, ◌∙◌}
 use mathlib.Core.Bool.{Bool, true, false, cond, not, ◌&&◌, and-eq-true_iff}
 use mathlib.Core.List.{List, [], ◌∷◌, ◌++◌}

@@ -1,4 +1,6 @@
 // The self test: CSR's channel bits set and cleared, read each time, and the old byte written back.
+#![tactic(auto)]
+
 ghost use Rattle.std.specs.Prelude.{◌≡◌, false};
 ghost use Rattle.self_test.specs.SelfTest.{start, action_of, differs, kept_of, reply_of};
 
@@ -6,14 +8,14 @@ use bus::{Action, Reply};
 use registers::{address, answer};
 
 // The step, and the byte that was read first.
-#[derive(Drop)]
+#[derive(Clone, Copy)]
 pub struct SelfTest {
     pub step: u32,
     pub old: u32,
 }
 
 // A number, whether the test has come to its end and whether it has passed, and the sequence.
-#[derive(Drop)]
+#[derive(Clone, Copy)]
 pub struct Tested {
     pub number: u32,
     pub done: bool,
@@ -27,6 +29,7 @@ pub fn new() -> SelfTest
     SelfTest { step: 0, old: 0 }
 }
 
+#[tactic(auto, unfolding(bus::specs::Sequence::action))]
 pub fn action(sequence: SelfTest) -> Action
     ensures { result ≡ action_of sequence }
 {
@@ -79,6 +82,7 @@ fn ended(number: u32, done: bool, old: u32) -> Tested
     }
 }
 
+#[tactic(auto, using(bus::proofs::Runs::answered), unfolding(crate::specs::SelfTest::reply_of, bus::specs::Sequence::after))]
 pub fn reply(sequence: SelfTest, reply: Reply) -> Tested
     ensures { result ≡ reply_of sequence reply }
 {

@@ -1,14 +1,14 @@
 -- Start-up follows its table, so of any run, whatever the replies are:
 --     in_order     what is handed out is the beginning of the table, with the FR1 that was read
---     in-time      after 17 replies it has ended
+--     in_time      after 17 replies it has ended
 --     stops        a failed reply to anything but a delay ends it: nothing more is handed out
 --     named        and its number is what is wrong with that reply
 --     opened, goes with good replies it comes to the CSR read; with the right CSR and a good clock to its last step, and a good reply there makes the driver's record
 --     judged       at the CSR read, a wrong one is Check, then a bad clock Bounds, after exactly 12 actions
 -- Where a reply makes the driver's record:
---     made-whole   the whole table has been handed out
---     made-record  the record has the mode and the ratio that were asked for
---     on-chip      CSR is left at 0xF0 + 2 x mode and FR1 as it was read with multiplier and vco_high
+--     made_whole   the whole table has been handed out
+--     made_record  the record has the mode and the ratio that were asked for
+--     on_chip      CSR is left at 0xF0 + 2 x mode and FR1 as it was read with multiplier and vco_high
 --     stays        every other register is as it was
 use mathlib.Core.Path.{◌≡◌, refl, sym, ap, ◌∙◌}
 use mathlib.Core.Bool.{Bool, true, false, cond, ◌&&◌, ◌||◌, and-eq-true_iff}

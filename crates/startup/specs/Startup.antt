@@ -4,7 +4,6 @@ use Rattle.registers.specs.Answers.{Ok, Check, Mode}
 use Rattle.registers.specs.Registers.{CSR, FR1, holds}
 use Rattle.bitfields.specs.Csr.{csr_of}
 use Rattle.bitfields.specs.Fr1.{with_clock}
-use Rattle.convert.specs.declared.Driver.{Driver}
 use Rattle.convert.specs.declared.clock.Clock.{Clock}
 use Rattle.convert.specs.Clock.{clock_of}
 use Rattle.bus.specs.declared.Action.{Action}

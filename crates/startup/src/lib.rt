@@ -1,4 +1,6 @@
 // Start-up: the chip reset, its wire mode set and read back, and its clock.
+#![tactic(auto)]
+
 ghost use Rattle.std.specs.Prelude.{◌≡◌};
 ghost use Rattle.startup.specs.Startup.{new_of, legal, word, action_of, judge, kept_of, at, result_of, ended_of, reply_of};
 
@@ -8,7 +10,7 @@ use convert::{Driver, clock};
 use registers::{address, answer};
 
 // The step, what was asked for, and the FR1 that was read.
-#[derive(Drop)]
+#[derive(Clone, Copy)]
 pub struct Startup {
     pub step: u32,
     pub mode: u32,
@@ -17,20 +19,20 @@ pub struct Startup {
     pub fr1: u32,
 }
 
-#[derive(Drop)]
+#[derive(Clone, Copy)]
 pub enum Begun {
     Sequence(Startup),
     Refused(u32),
 }
 
 // The driver's record exists only after the last reply.
-#[derive(Drop)]
+#[derive(Clone, Copy)]
 pub enum Made {
     Driver(Driver),
     NotYet,
 }
 
-#[derive(Drop)]
+#[derive(Clone, Copy)]
 pub struct Started {
     pub number: u32,
     pub driver: Made,
@@ -53,6 +55,7 @@ pub fn new(mode: u32, reference: f32, multiplier: u32) -> Begun
 }
 
 // In range, and with a good clock where it stands past the CSR read.
+#[tactic(auto, unfolding(crate::specs::Startup::legal))]
 fn legal(sequence: Startup) -> bool
     ensures { result ≡ legal sequence }
 {
@@ -69,6 +72,7 @@ fn legal(sequence: Startup) -> bool
 }
 
 // The FR1 to be written: multiplier and vco_high, and every other bit as it was read.
+#[tactic(auto, unfolding(crate::specs::Startup::word))]
 fn word(sequence: Startup) -> u32
     ensures { result ≡ word sequence sequence.fr1 }
 {
@@ -76,6 +80,7 @@ fn word(sequence: Startup) -> u32
     fr1::with_clock(sequence.fr1, sequence.multiplier, clock.vco).value
 }
 
+#[tactic(auto, unfolding(bus::specs::Sequence::action))]
 pub fn action(sequence: Startup) -> Action
     ensures { result ≡ action_of sequence }
 {
@@ -112,6 +117,7 @@ pub fn action(sequence: Startup) -> Action
 }
 
 // Start-up's own judgement: the CSR that was read, then the clock.
+#[tactic(auto, unfolding(crate::specs::Startup::judge))]
 fn judge(sequence: Startup, value: u32) -> u32
     ensures { result ≡ judge sequence value }
 {
@@ -167,6 +173,7 @@ fn ended(sequence: Startup, number: u32) -> Started
     }
 }
 
+#[tactic(auto, using(bus::proofs::Runs::answered), unfolding(crate::specs::Startup::reply_of, bus::specs::Sequence::after))]
 pub fn reply(sequence: Startup, reply: Reply) -> Started
     ensures { result ≡ reply_of sequence reply }
 {
