@@ -1,7 +1,7 @@
 -- A push's fields, look by look: of four, after so many.
---     look-end    the line has ended
---     look-on     there is a field or a fault, and what is more of the line
---     look-last   none is left
+--     look_end    the line has ended
+--     look_on     there is a field or a fault, and what is more of the line
+--     look_last   none is left
 use Prim.Native.Nat.{ℕ, suc, ◌+◌, ◌-◌, ◌<◌, ◌≤◌}
 use mathlib.Core.Path.{◌≡◌, ◌∙◌}
 use mathlib.Core.Bool.{cond}

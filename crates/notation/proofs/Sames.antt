@@ -1,5 +1,5 @@
--- `sameOf` is whether two lists are equal.
---     same-is   what `check::same` says of them
+-- `same_of` is whether two lists are equal.
+--     same_is   what `check::same` says of them
 use Prim.Native.Nat.{ℕ}
 use mathlib.Core.Path.{◌≡◌, refl, sym}
 use mathlib.Core.Bool.{Bool, true, false, false≢true, and-eq-true_iff}

@@ -1,8 +1,8 @@
 -- Digits, and numbers byte by byte.
---     in-range, below-range, above-range   a byte and a range
+--     in_range, below_range, above_range   a byte and a range
 --     rest_of   what `&t[n..]` holds
---     scan-next, scan-stop, scan-over, scan-fits   a digit, another byte, and the end
---     scan-start, magnitude-none   the start, and no digit
+--     scan_next, scan_stop, scan_over, scan_fits   a digit, another byte, and the end
+--     scan_start, magnitude_none   the start, and no digit
 use Prim.Native.Nat.{ℕ, suc, ◌+◌, ◌-◌, ◌*◌, ◌<◌, ◌≤◌}
 use mathlib.Core.Path.{◌≡◌, refl, ap}
 use mathlib.Core.Bool.{Bool, true, false, cond, and-false}

@@ -1,6 +1,6 @@
 -- A search through a line, byte by byte.
---     at-blank, at_mark, at_other   where it stops
---     seek_stop, left_step, seek-end   a byte where it stops, one where it does not, and the line's end
+--     at_blank, at_mark, at_other   where it stops
+--     seek_stop, left_step, seek_end   a byte where it stops, one where it does not, and the line's end
 use Prim.Native.Nat.{ℕ, ◌+◌, ◌-◌, ◌<◌, ◌≤◌}
 use mathlib.Core.Path.{◌≡◌}
 use mathlib.Core.Logic.{◌⊎◌, inl, inr}

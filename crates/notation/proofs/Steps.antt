@@ -1,5 +1,5 @@
 -- A line by its first word.
---     line-blank   there is none
+--     line_blank   there is none
 --     line_step    there is one
 use Prim.Native.Nat.{ℕ}
 use mathlib.Core.Path.{◌≡◌, sym}

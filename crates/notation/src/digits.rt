@@ -5,7 +5,7 @@ ghost use Rattle.notation.specs.Numbers.{digit_of, magnitude_of, negative_of, he
 use crate::Reason;
 
 // A number by its 32 bits, or why there is none.
-#[derive(Drop)]
+#[derive(Clone, Copy)]
 pub enum Number {
     Bits(u32),
     Not(Reason),
@@ -25,8 +25,11 @@ fn digit(b: u8) -> u64
 
 // A value with one more digit behind it. Past 32 bits it stays: only that it is large matters then.
 fn longer(value: u64, base: u64, d: u64) -> u64
-    requires { (base ≤ 16) × (d < base) × (value ≤ 68719476735) }
-    ensures { (result ≡ cond (ltb value 4294967296) (value * base + d) value) × (result ≤ 68719476735) }
+    requires base_in { base ≤ 16 }
+    requires digit_in { d < base }
+    requires value_in { value ≤ 68719476735 }
+    ensures value { result ≡ cond (ltb value 4294967296) (value * base + d) value }
+    ensures within { result ≤ 68719476735 }
 {
     if 4294967295 < value {
         return value;
@@ -36,7 +39,8 @@ fn longer(value: u64, base: u64, d: u64) -> u64
 
 // Digits alone, and at least one.
 fn magnitude(text: &[u8], base: u64) -> Number
-    requires { (1 ≤ base) × (base ≤ 16) }
+    requires some { 1 ≤ base }
+    requires base_in { base ≤ 16 }
     ensures { result ≡ magnitude_of base text.now }
 {
     if text.len() == 0 {
@@ -78,7 +82,8 @@ fn negative(n: Number, signed: bool) -> Number
 
 // Whether a word starts with 0x or 0X.
 fn is_hex(text: &[u8]) -> bool
-    ensures { (result ≡ hex_of text.now) × (result ≡ true → 2 ≤ length text.now) }
+    ensures hex { result ≡ hex_of text.now }
+    ensures long { result ≡ true → 2 ≤ length text.now }
 {
     if text.len() < 2 {
         return false;

@@ -1,4 +1,6 @@
 // The notation of a pulse script: one step a line, words parted by blanks, `#` before a comment.
+#![tactic(auto)]
+
 ghost use Rattle.std.specs.Prelude.{◌≤◌, ◌≡◌, length};
 ghost use Rattle.notation.specs.Lines.{bad_at, value_of, alone_of, mode_of, named_of, has_of, with_of};
 ghost use Rattle.notation.specs.Lines.{add_of, fields_of, push_of, line_of};
@@ -11,7 +13,7 @@ mod digits;
 mod words;
 
 // What is wrong with a line that cannot be read.
-#[derive(Drop)]
+#[derive(Clone, Copy)]
 pub enum Reason {
     Step,
     Missing,
@@ -24,7 +26,7 @@ pub enum Reason {
 }
 
 // A reason, and the part of the line that it is about.
-#[derive(Drop)]
+#[derive(Clone, Copy)]
 pub struct Fault {
     pub reason: Reason,
     pub start: usize,
@@ -32,7 +34,7 @@ pub struct Fault {
 }
 
 // The channels by their mask, and what is given for them.
-#[derive(Drop)]
+#[derive(Clone, Copy)]
 pub struct Push {
     pub mask: u32,
     pub word: Tuning,
@@ -41,7 +43,7 @@ pub struct Push {
 }
 
 // What a line says.
-#[derive(Drop)]
+#[derive(Clone, Copy)]
 pub enum Line {
     Blank,
     Mode(u32),
@@ -52,14 +54,14 @@ pub enum Line {
 }
 
 // A number with the place behind it, or why there is none.
-#[derive(Drop)]
+#[derive(Clone, Copy)]
 enum Got {
     Bits(u32, usize),
     Bad(Fault),
 }
 
 // A field of a push.
-#[derive(Drop)]
+#[derive(Clone, Copy)]
 enum Field {
     Word,
     Phase,
@@ -67,14 +69,14 @@ enum Field {
 }
 
 // The field that a word names, if it names one, and whether the field's number may have a sign.
-#[derive(Drop)]
+#[derive(Clone, Copy)]
 enum Found {
     Is(Field, bool),
     Nothing,
 }
 
 // A push with one more field and the place behind it, or why there is none.
-#[derive(Drop)]
+#[derive(Clone, Copy)]
 enum Taken {
     More(Push, usize),
     Bad(Fault),
@@ -196,7 +198,8 @@ fn with(push: Push, field: Field, v: u32) -> Push
 
 // A push with the field that a part of the line names.
 fn add(line: &[u8], push: Push, s: Span) -> Taken
-    requires { (s.start ≤ s.end) × (s.end ≤ length line.now) }
+    requires ordered { s.start ≤ s.end }
+    requires within { s.end ≤ length line.now }
     ensures { result ≡ add_of line.now push s }
 {
     let start = s.start;

@@ -3,7 +3,7 @@ ghost use Rattle.std.specs.Prelude.{◌≡◌, ◌≤◌, length};
 ghost use Rattle.notation.specs.Words.{stops, seek_of, next_of};
 
 // A part of a line.
-#[derive(Drop)]
+#[derive(Clone, Copy)]
 pub struct Span {
     pub start: usize,
     pub end: usize,
@@ -22,7 +22,9 @@ fn stops(inside: bool, b: u8) -> bool
 
 // The first place from `at` on where a search stops, or the line's end.
 fn seek(line: &[u8], at: usize, inside: bool) -> usize
-    ensures { (result ≡ seek_of inside line.now at) × (result ≤ length line.now) × (at ≤ length line.now → at ≤ result) }
+    ensures place { result ≡ seek_of inside line.now at }
+    ensures within { result ≤ length line.now }
+    ensures forward { at ≤ length line.now → at ≤ result }
 {
     let mut i = at;
     while i < line.len() {
@@ -36,7 +38,9 @@ fn seek(line: &[u8], at: usize, inside: bool) -> usize
 
 // The next word from `at` on: an empty part at the line's end or before a `#`.
 pub fn next(line: &[u8], at: usize) -> Span
-    ensures { (result ≡ next_of line.now at) × (result.start ≤ result.end) × (result.end ≤ length line.now) }
+    ensures place { result ≡ next_of line.now at }
+    ensures ordered { result.start ≤ result.end }
+    ensures within { result.end ≤ length line.now }
 {
     let start = seek(line, at, false);
     let end = seek(line, start, true);
