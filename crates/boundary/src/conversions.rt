@@ -7,8 +7,7 @@ ghost use Rattle.convert.specs.Amplitude as Amplitude;
 
 use convert::{Driver, amplitude, clock, frequency, phase};
 
-#[unsafe(no_mangle)]
-pub extern "C" fn ad9959_clock(
+pub fn ad9959_clock(
     reference: f32,
     multiplier: u32,
     system: &mut f32,
@@ -25,13 +24,7 @@ pub extern "C" fn ad9959_clock(
 }
 
 // The tuning word of a frequency in Hz on a ratio, and the frequency that it achieves.
-#[unsafe(no_mangle)]
-pub extern "C" fn ad9959_frequency(
-    ratio: f32,
-    frequency: f32,
-    word: &mut u32,
-    achieved: &mut f32,
-) -> u32
+pub fn ad9959_frequency(ratio: f32, frequency: f32, word: &mut u32, achieved: &mut f32) -> u32
     ensures { record { number = result; word = word.new; achieved = achieved.new } ≡ Frequency.setting_of ratio frequency }
 {
     let s = frequency::set(Driver { mode: 0, ratio }, frequency);
@@ -40,8 +33,7 @@ pub extern "C" fn ad9959_frequency(
     s.number
 }
 
-#[unsafe(no_mangle)]
-pub extern "C" fn ad9959_phase(phase: f32, word: &mut u32, achieved: &mut f32) -> u32
+pub fn ad9959_phase(phase: f32, word: &mut u32, achieved: &mut f32) -> u32
     ensures { record { number = result; word = word.new; achieved = achieved.new } ≡ Phase.setting_of phase }
 {
     let s = phase::set(phase);
@@ -50,8 +42,7 @@ pub extern "C" fn ad9959_phase(phase: f32, word: &mut u32, achieved: &mut f32) -
     s.number
 }
 
-#[unsafe(no_mangle)]
-pub extern "C" fn ad9959_amplitude(amplitude: f32, acr: &mut u32, achieved: &mut f32) -> u32
+pub fn ad9959_amplitude(amplitude: f32, acr: &mut u32, achieved: &mut f32) -> u32
     ensures { record { number = result; word = acr.new; achieved = achieved.new } ≡ Amplitude.setting_of amplitude }
 {
     let s = amplitude::set(amplitude);
@@ -60,8 +51,7 @@ pub extern "C" fn ad9959_amplitude(amplitude: f32, acr: &mut u32, achieved: &mut
     s.number
 }
 
-#[unsafe(no_mangle)]
-pub extern "C" fn ad9959_read_frequency(ratio: f32, word: u32, value: &mut f32) -> u32
+pub fn ad9959_read_frequency(ratio: f32, word: u32, value: &mut f32) -> u32
     ensures { record { number = result; value = value.new } ≡ Frequency.reading_of ratio word }
 {
     let s = frequency::read(Driver { mode: 0, ratio }, word);
@@ -69,8 +59,7 @@ pub extern "C" fn ad9959_read_frequency(ratio: f32, word: u32, value: &mut f32) 
     s.number
 }
 
-#[unsafe(no_mangle)]
-pub extern "C" fn ad9959_read_phase(word: u32, value: &mut f32) -> u32
+pub fn ad9959_read_phase(word: u32, value: &mut f32) -> u32
     ensures { record { number = result; value = value.new } ≡ Phase.reading_of word }
 {
     let s = phase::read(word);
@@ -78,8 +67,7 @@ pub extern "C" fn ad9959_read_phase(word: u32, value: &mut f32) -> u32
     s.number
 }
 
-#[unsafe(no_mangle)]
-pub extern "C" fn ad9959_read_amplitude(acr: u32, value: &mut f32) -> u32
+pub fn ad9959_read_amplitude(acr: u32, value: &mut f32) -> u32
     ensures { record { number = result; value = value.new } ≡ Amplitude.reading_of acr }
 {
     let s = amplitude::read(acr);

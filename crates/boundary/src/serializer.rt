@@ -6,8 +6,7 @@ ghost use Rattle.boundary.specs.Boundary.{tuning_at, phase_at, acr_at};
 use profile::{Tuning, Value, lent};
 
 // Bits 0, 1, 2 of presence say whether word, phase and ACR are given; a presence above 7 is Word, as a phase too wide is.
-#[unsafe(no_mangle)]
-pub extern "C" fn ad9959_push(
+pub fn ad9959_push(
     mode: u32,
     length: &mut usize,
     bytes: &mut [u8; 32],
@@ -44,8 +43,7 @@ pub extern "C" fn ad9959_push(
     }
 }
 
-#[unsafe(no_mangle)]
-pub extern "C" fn ad9959_finalize(
+pub fn ad9959_finalize(
     mode: u32,
     length: &mut usize,
     bytes: &mut [u8; 32],

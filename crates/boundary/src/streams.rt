@@ -5,8 +5,7 @@ ghost use Rattle.stream.specs.Decoder.{Decodes};
 ghost use Rattle.stream.specs.Encoder.{Encodes};
 
 // The writes of a stream, as addresses and values, and how many there are.
-#[unsafe(no_mangle)]
-pub extern "C" fn ad9959_decode(
+pub fn ad9959_decode(
     bytes: &[u8],
     addresses: &mut [u32],
     values: &mut [u32],
@@ -20,8 +19,7 @@ pub extern "C" fn ad9959_decode(
 }
 
 // The stream of so many writes, and its length.
-#[unsafe(no_mangle)]
-pub extern "C" fn ad9959_encode(
+pub fn ad9959_encode(
     addresses: &[u32],
     values: &[u32],
     count: usize,
@@ -36,8 +34,7 @@ pub extern "C" fn ad9959_encode(
 }
 
 // A stream fed to an image of 91 words.
-#[unsafe(no_mangle)]
-pub extern "C" fn ad9959_feed(bytes: &[u8], image: &mut [u32]) -> u32
+pub fn ad9959_feed(bytes: &[u8], image: &mut [u32]) -> u32
     ensures { Feeds bytes.now image.old result image.new }
 {
     image::feed(bytes, image)
