@@ -2,91 +2,105 @@
 use crate::say;
 use profile::{ProfileSerializer as Profile, Tuning, Value};
 use registers::answer;
+use std::io;
 
-fn tuning(at: usize, t: Tuning) -> usize {
+fn tuning(rt: &impl Print, at: usize, t: Tuning) -> io::Result<usize> {
     let Tuning::Tune(z) = t else {
-        return at;
+        return Ok(at);
     };
     let bits = profile::bits(z);
     if z < 0 {
-        return say::decimal(at, b" word -", (0xffff_ffff - bits) as u64 + 1);
+        return say::decimal(rt, at, b" word -", (0xffff_ffff - bits) as u64 + 1);
     }
-    say::hex(at, b" word 0x", bits, 8)
+    say::hex(rt, at, b" word 0x", bits, 8)
 }
 
-fn value(at: usize, before: &[u8], v: Value, digits: usize) -> usize {
+fn value(rt: &impl Print, at: usize, before: &[u8], v: Value, digits: usize) -> io::Result<usize> {
     match v {
-        Value::Given(n) => say::hex(at, before, n, digits),
-        Value::Absent => at,
+        Value::Given(n) => say::hex(rt, at, before, n, digits),
+        Value::Absent => Ok(at),
     }
 }
 
 // The rest of a line; a refusal too has a length, the one that stays.
-fn outcome(at: usize, number: u32, length: usize) {
-    say::text(say::answer(at, 54, number), b"length ");
+fn outcome(rt: &impl Print, at: usize, number: u32, length: usize) -> io::Result<()> {
+    say::text(rt, say::answer(rt, at, 54, number)?, b"length ")?;
     if length < 10 {
-        say::text(0, b" ");
+        say::text(rt, 0, b" ")?;
     }
-    say::decimal(0, b"", length as u64);
-    say::text(0, b"\n");
+    say::decimal(rt, 0, b"", length as u64)?;
+    say::text(rt, 0, b"\n")?;
+    Ok(())
 }
 
 // A serializer for a mode, with its example's number in front.
-pub fn begin(head: &[u8], mode: u32) -> Profile {
+pub fn begin(rt: &impl Print, head: &[u8], mode: u32) -> io::Result<Profile> {
     let n = profile::new(mode);
     let s = n.serializer;
-    let a = say::decimal(say::text(0, head), b"mode ", mode as u64);
-    outcome(a, n.number, s.length);
-    s
+    let a = say::decimal(rt, say::text(rt, 0, head)?, b"mode ", mode as u64)?;
+    outcome(rt, a, n.number, s.length)?;
+    Ok(s)
 }
 
-pub fn push(s: Profile, mask: u32, word: Tuning, phase: Value, acr: Value) -> Profile {
+pub fn push(
+    rt: &impl Print,
+    s: Profile,
+    mask: u32,
+    word: Tuning,
+    phase: Value,
+    acr: Value,
+) -> io::Result<Profile> {
     let p = profile::push(s, mask, word, phase, acr);
     let next = p.serializer;
-    let a = say::decimal(0, b"    push ", mask as u64);
-    let b = value(tuning(a, word), b" phase 0x", phase, 4);
-    outcome(value(b, b" acr 0x", acr, 6), p.number, next.length);
-    next
+    let a = say::decimal(rt, 0, b"    push ", mask as u64)?;
+    let b = value(rt, tuning(rt, a, word)?, b" phase 0x", phase, 4)?;
+    outcome(rt, value(rt, b, b" acr 0x", acr, 6)?, p.number, next.length)?;
+    Ok(next)
 }
 
-fn byte(n: u8) {
-    say::hex(0, b" ", n as u32, 2);
+fn byte(rt: &impl Print, n: u8) -> io::Result<()> {
+    say::hex(rt, 0, b" ", n as u32, 2)?;
+    Ok(())
 }
 
-fn bytes(s: &[u8], count: usize) {
+fn bytes(rt: &impl Print, s: &[u8], count: usize) -> io::Result<()> {
     if count == 0 {
-        say::text(0, b" none");
+        say::text(rt, 0, b" none")?;
     }
-    let mut i = 0;
-    while i < count && i < s.len() {
-        byte(s[i]);
-        i = i + 1;
+    for b in s.iter().take(count) {
+        byte(rt, *b)?;
     }
+    Ok(())
 }
 
-fn words(s: &[u32], count: usize) {
+fn words(rt: &impl Print, s: &[u32], count: usize) -> io::Result<()> {
     if count == 0 {
-        say::text(0, b" none");
+        say::text(rt, 0, b" none")?;
     }
-    let mut i = 0;
-    while i < count && i < s.len() {
-        say::hex(0, b" 0x", s[i], 8);
-        i = i + 1;
+    for w in s.iter().take(count) {
+        say::hex(rt, 0, b" 0x", *w, 8)?;
     }
+    Ok(())
 }
 
 // A profile is padded and handed out: its bytes and words.
-pub fn finalize(s: Profile) {
+pub fn finalize(rt: &impl Print, s: Profile) -> io::Result<()> {
     let mut room = [0u32; 8];
     let f = profile::finalize(s, &mut room);
     let next = f.serializer;
     let stream = next.bytes;
-    outcome(say::text(0, b"    finalize"), f.number, next.length);
+    outcome(
+        rt,
+        say::text(rt, 0, b"    finalize")?,
+        f.number,
+        next.length,
+    )?;
     if f.number == answer::OK {
-        say::text(0, b"    bytes ");
-        bytes(&stream, next.length);
-        say::text(0, b"\n    words ");
-        words(&room, f.count);
-        say::text(0, b"\n");
+        say::text(rt, 0, b"    bytes ")?;
+        bytes(rt, &stream, next.length)?;
+        say::text(rt, 0, b"\n    words ")?;
+        words(rt, &room, f.count)?;
+        say::text(rt, 0, b"\n")?;
     }
+    Ok(())
 }

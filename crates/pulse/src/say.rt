@@ -1,18 +1,19 @@
 // Text and numbers on standard output.
 ghost use Rattle.std.specs.Prelude.{◌≤◌, length};
 
-use libc::{STDERR_FILENO, STDOUT_FILENO};
 use registers::answer;
+use std::io;
 
-pub fn text(s: &[u8]) {
-    io::write_all(STDOUT_FILENO, s);
+pub fn text(rt: &impl Print, s: &[u8]) -> io::Result<()> {
+    rt.write_all(s)
 }
 
 // The first bytes of a text.
-fn front(s: &[u8], n: usize) {
+fn front(rt: &impl Print, s: &[u8], n: usize) -> io::Result<()> {
     if n <= s.len() {
-        text(&s[0..n]);
+        text(rt, &s[0..n])?;
     }
+    Ok(())
 }
 
 fn digit(d: u64) -> u8 {
@@ -26,64 +27,57 @@ fn digit(d: u64) -> u8 {
 }
 
 // The last digits of a number in a base.
-fn spelled(v: u64, base: u64, n: usize) {
+fn spelled(rt: &impl Print, v: u64, base: u64, n: usize) -> io::Result<()> {
     let mut digits = [48u8; 10];
     if base < 2 {
-        return;
+        return Ok(());
     }
     if 10 < n {
-        return;
+        return Ok(());
     }
-    let mut i = n;
     let mut rest = v;
-    while 0 < i {
-        i = i - 1;
-        digits[i] = digit(rest % base);
+    for i in 0..n {
+        digits[n - 1 - i] = digit(rest % base);
         rest = rest / base;
     }
-    front(&digits, n);
+    front(rt, &digits, n)?;
+    Ok(())
 }
 
 // A number at the right end of a column of some width.
-fn right(n: u64, width: usize) {
-    let mut digits = [0u8; 20];
-    let k = io::decimal(n, &mut digits);
-    if k < width {
-        front(b"    ", width - k);
-    }
-    text(&digits[..k]);
+fn right(rt: &impl Print, n: u64, width: usize) -> io::Result<()> {
+    print!(rt; "{n:>width$}")
 }
 
 // A number as its letter says: d decimal, s and r in 2 and 4 columns, p, q and m the last 2, 4 and 10 decimal digits,
 // B, H, T and W the last 2, 4, 6 and 8 hexadecimal ones.
-fn number(letter: u8, n: u64) {
+fn number(rt: &impl Print, letter: u8, n: u64) -> io::Result<()> {
     match letter {
-        b's' => right(n, 2),
-        b'r' => right(n, 4),
-        b'p' => spelled(n, 10, 2),
-        b'q' => spelled(n, 10, 4),
-        b'm' => spelled(n, 10, 10),
-        b'B' => spelled(n, 16, 2),
-        b'H' => spelled(n, 16, 4),
-        b'T' => spelled(n, 16, 6),
-        b'W' => spelled(n, 16, 8),
-        _ => right(n, 1),
+        b's' => right(rt, n, 2),
+        b'r' => right(rt, n, 4),
+        b'p' => spelled(rt, n, 10, 2),
+        b'q' => spelled(rt, n, 10, 4),
+        b'm' => spelled(rt, n, 10, 10),
+        b'B' => spelled(rt, n, 16, 2),
+        b'H' => spelled(rt, n, 16, 4),
+        b'T' => spelled(rt, n, 16, 6),
+        b'W' => spelled(rt, n, 16, 8),
+        _ => right(rt, n, 1),
     }
 }
 
 // The first % from a place on, or the end.
 fn mark(s: &[u8], from: usize) -> usize
     requires { from ≤ length s.now }
-    ensures { (from ≤ result) × (result ≤ length s.now) }
+    ensures low { from ≤ result }
+    ensures high { result ≤ length s.now }
 {
-    let mut i = from;
-    while i < s.len() {
+    for i in from..s.len() {
         if s[i] == b'%' {
             return i;
         }
-        i = i + 1;
     }
-    i
+    s.len()
 }
 
 fn nth(numbers: &[u64], k: usize) -> u64 {
@@ -94,19 +88,20 @@ fn nth(numbers: &[u64], k: usize) -> u64 {
 }
 
 // A text in which each % and the letter behind it stand for the next number.
-pub fn form(s: &[u8], numbers: &[u64]) {
+pub fn form(rt: &impl Print, s: &[u8], numbers: &[u64]) -> io::Result<()> {
     let mut i = 0;
     let mut k = 0;
     while i < s.len() {
         let j = mark(s, i);
-        text(&s[i..j]);
+        text(rt, &s[i..j])?;
         if s.len() - j < 2 {
-            return;
+            return Ok(());
         }
-        number(s[j + 1], nth(numbers, k));
+        number(rt, s[j + 1], nth(numbers, k))?;
         k = k + 1;
         i = j + 2;
     }
+    Ok(())
 }
 
 // A stranger's byte: a terminal obeys control characters.
@@ -124,40 +119,37 @@ fn shown(b: u8) -> u8 {
 fn safe(s: &[u8], out: &mut [u8]) -> usize
     ensures { result ≤ length out.new }
 {
-    let mut i = 0;
-    while i < s.len() {
-        if out.len() <= i {
-            break;
-        }
+    let n = s.len().min(out.len());
+    for i in 0..n {
         out[i] = shown(s[i]);
-        i = i + 1;
     }
-    i
+    n
 }
 
 // A stranger's text, of at most 4,096 bytes.
-pub fn plain(s: &[u8]) {
-    let mut out = io::buffer();
+pub fn plain(rt: &impl Print, s: &[u8]) -> io::Result<()> {
+    let mut out = [0u8; 4096];
     let n = safe(s, &mut out);
-    text(&out[0..n]);
+    text(rt, &out[0..n])
 }
 
-// What a call that has just failed was about, and why it failed, on standard error.
-pub fn fail(what: &[u8]) {
-    let mut out = io::buffer();
+// What a call that has failed was about, and why it failed, on standard error.
+pub fn fail(rt: &impl Eprint, what: &[u8], why: io::Error) -> io::Result<()> {
+    let mut out = [0u8; 4096];
     let n = safe(what, &mut out);
-    io::write_all(STDERR_FILENO, b"pulse: ");
-    os::fail(&out[0..n]);
+    let shown = str::from_utf8(&out[0..n]).unwrap_or("?");
+    eprintln!(rt; "pulse: {shown}: {why}")
 }
 
 // An answer's number and name, in seven columns where it is one of a step's.
-pub fn answer(number: u32) {
+pub fn answer(rt: &impl Print, number: u32) -> io::Result<()> {
     let name = answer::name(number);
     let bytes = name.bytes;
     let length = name.length;
-    form(b"%d ", &[number as u64]);
-    front(&bytes, length);
+    form(rt, b"%d ", &[number as u64])?;
+    front(rt, &bytes, length)?;
     if length < 5 {
-        front(b"     ", 5 - length);
+        front(rt, b"     ", 5 - length)?;
     }
+    Ok(())
 }

@@ -1,12 +1,12 @@
 // A script's lines played one by one.
 use crate::{report, say, why};
-use libc::STDOUT_FILENO;
 use notation::{Fault, Line, Push};
 use profile::ProfileSerializer;
 use registers::answer;
+use std::io;
 
 // The profile as it stands, and what went wrong so far.
-#[derive(Drop)]
+#[derive(Clone, Copy)]
 pub struct State {
     // bytes of the line that is being read
     pub used: usize,
@@ -38,51 +38,57 @@ pub fn start() -> State {
 }
 
 // A line without an answer.
-fn echo(st: State, line: &[u8]) {
-    say::form(b"%r                     ", &[st.lines]);
-    say::plain(line);
-    say::text(b"\n");
+fn echo(rt: &impl Print, st: State, line: &[u8]) -> io::Result<()> {
+    say::form(rt, b"%r                     ", &[st.lines])?;
+    say::plain(rt, line)?;
+    say::text(rt, b"\n")?;
+    Ok(())
 }
 
 // A step's answer, the length so far, and its line.
-fn told(st: State, line: &[u8], number: u32, length: usize) {
-    say::form(b"%r  ", &[st.lines]);
-    say::answer(number);
-    say::form(b" length %s  ", &[length as u64]);
-    say::plain(line);
-    say::text(b"\n");
+fn told(rt: &impl Print, st: State, line: &[u8], number: u32, length: usize) -> io::Result<()> {
+    say::form(rt, b"%r  ", &[st.lines])?;
+    say::answer(rt, number)?;
+    say::form(rt, b" length %s  ", &[length as u64])?;
+    say::plain(rt, line)?;
+    say::text(rt, b"\n")?;
+    Ok(())
 }
 
 fn refusal(st: State) -> State {
     let mut next = st;
-    next.refused = std::num::wrapping_add_u64(st.refused, 1);
+    next.refused = st.refused.wrapping_add(1);
     next
 }
 
 // A line that is left out, before the reason.
-fn left_out(st: State, line: &[u8]) -> State {
+fn left_out(rt: &impl Print, st: State, line: &[u8]) -> io::Result<State> {
     let mut next = st;
-    next.unread = std::num::wrapping_add_u64(st.unread, 1);
-    say::form(b"%r  left out           ", &[st.lines]);
-    say::plain(line);
-    say::text(b"\n      ");
-    next
+    next.unread = st.unread.wrapping_add(1);
+    say::form(rt, b"%r  left out           ", &[st.lines])?;
+    say::plain(rt, line)?;
+    say::text(rt, b"\n      ")?;
+    Ok(next)
 }
 
-fn mode(st: State, line: &[u8], mode: u32) -> State {
+fn mode(rt: &impl Print, st: State, line: &[u8], mode: u32) -> io::Result<State> {
     let new = profile::new(mode);
     let old = st.serializer;
     if new.number != answer::OK {
-        told(st, line, new.number, old.length);
+        told(rt, st, line, new.number, old.length)?;
         say::form(
+            rt,
             b"      %d is no mode: a mode is 0 to 3; nothing changed\n",
             &[mode as u64],
-        );
-        return refusal(st);
+        )?;
+        return Ok(refusal(st));
     }
-    told(st, line, new.number, 0);
+    told(rt, st, line, new.number, 0)?;
     if st.loose {
-        say::text(b"      the profile before it was not finalized, and is dropped\n");
+        say::text(
+            rt,
+            b"      the profile before it was not finalized, and is dropped\n",
+        )?;
     }
     let serializer = new.serializer;
     let padding = [0u8; 32];
@@ -91,104 +97,103 @@ fn mode(st: State, line: &[u8], mode: u32) -> State {
     next.loose = false;
     next.serializer = serializer;
     next.padding = padding;
-    next
+    Ok(next)
 }
 
-fn push(st: State, line: &[u8], p: Push) -> State {
+fn push(rt: &impl Print, st: State, line: &[u8], p: Push) -> io::Result<State> {
     let old = st.serializer;
     let word = p.word;
     let phase = p.phase;
     let acr = p.acr;
     let pushed = profile::push(old, p.mask, word, phase, acr);
     let serializer = pushed.serializer;
-    told(st, line, pushed.number, serializer.length);
+    told(rt, st, line, pushed.number, serializer.length)?;
     if pushed.number != answer::OK {
-        why::push(pushed.number, old.length, p);
-        return refusal(st);
+        why::push(rt, pushed.number, old.length, p)?;
+        return Ok(refusal(st));
     }
     let mut next = st;
     next.loose = true;
     next.serializer = serializer;
-    next
+    Ok(next)
 }
 
 // Marks the bytes from a place to another.
 fn mark(padding: &mut [u8], from: usize, to: usize) {
-    let mut i = from;
-    while i < to {
+    for i in from..to {
         if padding.len() <= i {
             return;
         }
         padding[i] = 1;
-        i = i + 1;
     }
 }
 
-fn finalize(st: State, line: &[u8]) -> State {
+fn finalize(rt: &impl Print, st: State, line: &[u8]) -> io::Result<State> {
     let old = st.serializer;
     let mut words = [0u32; 8];
     let f = profile::finalize(old, &mut words);
     let serializer = f.serializer;
     let mut padding = st.padding;
     mark(&mut padding, old.length, serializer.length);
-    told(st, line, f.number, serializer.length);
-    report::report(serializer, &padding);
+    told(rt, st, line, f.number, serializer.length)?;
+    report::report(rt, serializer, &padding)?;
     let mut next = st;
     next.loose = false;
     next.serializer = serializer;
     next.padding = padding;
-    next
+    Ok(next)
 }
 
-fn show(st: State, line: &[u8]) -> State {
+fn show(rt: &impl Print, st: State, line: &[u8]) -> io::Result<State> {
     let padding = st.padding;
-    echo(st, line);
-    report::report(st.serializer, &padding);
-    st
+    echo(rt, st, line)?;
+    report::report(rt, st.serializer, &padding)?;
+    Ok(st)
 }
 
-fn comment(st: State, line: &[u8]) -> State {
+fn comment(rt: &impl Print, st: State, line: &[u8]) -> io::Result<State> {
     if 0 < line.len() && line[0] != b'\r' {
-        echo(st, line);
+        echo(rt, st, line)?;
     }
-    st
+    Ok(st)
 }
 
-fn unread(st: State, line: &[u8], f: Fault) -> State {
-    let next = left_out(st, line);
-    why::unread(line, f);
-    next
+fn unread(rt: &impl Print, st: State, line: &[u8], f: Fault) -> io::Result<State> {
+    let next = left_out(rt, st, line)?;
+    why::unread(rt, line, f)?;
+    Ok(next)
 }
 
 // A line that is left out for a plain reason.
-pub fn passed_over(st: State, line: &[u8], reason: &[u8]) -> State {
-    let next = left_out(st, line);
-    say::text(reason);
-    next
+pub fn passed_over(rt: &impl Print, st: State, line: &[u8], reason: &[u8]) -> io::Result<State> {
+    let next = left_out(rt, st, line)?;
+    say::text(rt, reason)?;
+    Ok(next)
 }
 
 // A step of the profile that is open.
-fn step(st: State, line: &[u8], what: Line) -> State {
+fn step(rt: &impl Print, st: State, line: &[u8], what: Line) -> io::Result<State> {
     match what {
-        Line::Push(p) => push(st, line, p),
-        Line::Finalize => finalize(st, line),
-        Line::Show => show(st, line),
-        _ => st,
+        Line::Push(p) => push(rt, st, line, p),
+        Line::Finalize => finalize(rt, st, line),
+        Line::Show => show(rt, st, line),
+        _ => Ok(st),
     }
 }
 
 // One line of a script.
-pub fn play(st: State, line: &[u8]) -> State {
+pub fn play(rt: &impl Print, st: State, line: &[u8]) -> io::Result<State> {
     let what = notation::read(line);
     match what {
-        Line::Blank => comment(st, line),
-        Line::Mode(m) => mode(st, line, m),
-        Line::Unread(f) => unread(st, line, f),
+        Line::Blank => comment(rt, st, line),
+        Line::Mode(m) => mode(rt, st, line, m),
+        Line::Unread(f) => unread(rt, st, line, f),
         _ => {
             if st.open {
-                return step(st, line, what);
+                return step(rt, st, line, what);
             }
             passed_over(
+                rt,
                 st,
                 line,
                 b"there is no profile yet: start with a line such as mode 3\n",
@@ -198,18 +203,16 @@ pub fn play(st: State, line: &[u8]) -> State {
 }
 
 // The end of a script.
-pub fn close(st: State) {
+pub fn close(rt: &impl Print, st: State) -> io::Result<()> {
     let padding = st.padding;
     if st.loose {
-        say::text(b"\nthe last profile was not finalized; as it stands:\n");
-        report::report(st.serializer, &padding);
+        say::text(rt, b"\nthe last profile was not finalized; as it stands:\n")?;
+        report::report(rt, st.serializer, &padding)?;
     }
     say::form(
+        rt,
         b"lines left out: %d\nsteps refused: %d",
         &[st.unread, st.refused],
-    );
-    // where the output is full or gone, this write fails too
-    if !io::write_all(STDOUT_FILENO, b"\n") {
-        say::fail(b"standard output");
-    }
+    )?;
+    say::text(rt, b"\n")
 }

@@ -1,7 +1,7 @@
 // A line's numbers, in hexadecimal with blanks between them.
 
 // The numbers of the line so far, the digits of the next, and the lines before.
-#[derive(Drop)]
+#[derive(Clone, Copy)]
 pub struct Scan {
     pub count: usize,
     pub value: u32,

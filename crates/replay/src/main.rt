@@ -1,15 +1,20 @@
 // The original's answers played again on the port: lines of numbers, each what was asked and what came back.
+#![tactic(auto)]
+
+ghost use Rattle.std.specs.Prelude.{◌≤◌, length, IfOk};
+
 mod line;
 mod profiles;
 mod sequences;
 
-use libc::{STDIN_FILENO, STDOUT_FILENO};
 use line::Scan;
+use std::io;
+use std::io::Read;
 
-fn said(before: &[u8], n: u32, after: &[u8]) {
-    io::write_all(STDOUT_FILENO, before);
-    io::print_decimal(STDOUT_FILENO, n as u64);
-    io::write_all(STDOUT_FILENO, after);
+fn said(rt: &impl Print, before: &[u8], n: u32, after: &[u8]) -> io::Result<()> {
+    rt.write_all(before)?;
+    print!(rt; "{n}")?;
+    rt.write_all(after)
 }
 
 // Whether the port gives what a line says.
@@ -22,41 +27,54 @@ fn same(numbers: &[u32]) -> bool {
 }
 
 // What a byte adds: a digit, the end of a number, or the end of a line.
-fn step(scan: Scan, c: u8, numbers: &mut [u32]) -> Scan {
+fn step(rt: &impl Print, scan: Scan, c: u8, numbers: &mut [u32]) -> io::Result<Scan> {
     let next = line::byte(scan, c, numbers);
     if c != b'\n' || next.count == 0 {
-        return next;
+        return Ok(next);
     }
     let good = same(&numbers[..]);
     if !good {
-        said(b"line ", next.lines % 0x1000_0000 + 1, b" differs\n");
+        said(rt, b"line ", next.lines % 0x1000_0000 + 1, b" differs\n")?;
     }
-    line::ended(next, good)
+    Ok(line::ended(next, good))
 }
 
-fn chunk(scan: Scan, bytes: &[u8], numbers: &mut [u32]) -> Scan {
+fn chunk(rt: &impl Print, scan: Scan, bytes: &[u8], numbers: &mut [u32]) -> io::Result<Scan> {
     let mut state = scan;
-    let mut i = 0;
-    while i < bytes.len() {
-        state = step(state, bytes[i], numbers);
-        i = i + 1;
+    for c in bytes {
+        state = step(rt, state, *c, numbers)?;
     }
-    state
+    Ok(state)
 }
 
-fn main() {
-    let mut numbers = [0u32; 128];
-    let mut buffer = io::buffer();
-    let mut state = line::start();
-    let mut chunks: usize = 0;
-    while chunks < 1000000 {
-        let n = io::read_full(STDIN_FILENO, &mut buffer);
-        if n == 0 {
-            said(b"", state.lines, b" lines, ");
-            said(b"", state.differ, b" differ\n");
-            return;
+// Reads until the buffer is full or the input ends: how much was read.
+fn fill<I: Read>(input: &mut I, buffer: &mut [u8]) -> io::Result<usize>
+    ensures { IfOk result (λ n. n ≤ length buffer.new) }
+{
+    let mut n = 0;
+    for _ in 0..buffer.len() {
+        let got = input.read(&mut buffer[n..])?;
+        if got == 0 {
+            break;
         }
-        state = chunk(state, &buffer[..n], &mut numbers);
-        chunks = chunks + 1;
+        n = n + got;
     }
+    Ok(n)
+}
+
+fn main(rt: HostRuntime) -> io::Result<()> {
+    let mut numbers = [0u32; 128];
+    let mut buffer = [0u8; 4096];
+    let mut input = rt.stdin();
+    let mut state = line::start();
+    for _ in 0..1000000 {
+        let n = fill(&mut input, &mut buffer)?;
+        if n == 0 {
+            said(&rt, b"", state.lines, b" lines, ")?;
+            said(&rt, b"", state.differ, b" differ\n")?;
+            return Ok(());
+        }
+        state = chunk(&rt, state, &buffer[..n], &mut numbers)?;
+    }
+    Ok(())
 }

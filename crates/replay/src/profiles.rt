@@ -21,24 +21,20 @@ fn pushed(serializer: ProfileSerializer, numbers: &[u32], i: usize) -> Stepped {
 fn all(first: Stepped, numbers: &[u32], count: usize) -> Stepped {
     let mut now = first;
     let mut i = 3;
-    let mut k = 0;
-    while k < count {
+    for _ in 0..count {
         if now.number == answer::OK {
             let serializer = now.serializer;
             now = pushed(serializer, numbers, i);
         }
         i = behind(i, 5);
-        k = k + 1;
     }
     now
 }
 
 fn words(numbers: &[u32], from: usize, words: &[u32], count: usize) -> bool {
     let mut good = true;
-    let mut i = 0;
-    while i < count {
+    for i in 0..count {
         good = good && after(numbers, from, i) == at(words, i);
-        i = i + 1;
     }
     good
 }

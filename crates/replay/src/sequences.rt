@@ -7,7 +7,7 @@ use host::{Outcome, Sequence};
 use registers::address;
 
 // An action as numbers: its kind, and its one or two.
-#[derive(Drop)]
+#[derive(Clone, Copy)]
 struct Told {
     kind: u32,
     first: u32,
@@ -55,7 +55,7 @@ fn stands(action: Action, numbers: &[u32], i: usize) -> bool {
 }
 
 // How a run stands: whether every action was the line's, and what the last reply gave.
-#[derive(Drop)]
+#[derive(Clone, Copy)]
 struct Run {
     sequence: Sequence,
     good: bool,
@@ -94,9 +94,7 @@ fn played(first: Sequence, numbers: &[u32], tail: usize) -> bool {
         count: 0,
     };
     let mut i = behind(tail, 4);
-    let mut n = 0;
-    while n < 20 {
-        n = n + 1;
+    for n in 1..21u32 {
         run = turn(run, numbers, i, at(numbers, tail) == n);
         i = behind(i, 4);
     }

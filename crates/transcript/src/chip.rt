@@ -3,7 +3,7 @@ use bus::{Action, Reply};
 use registers::address;
 
 // At one action, by its number from 1.
-#[derive(Drop)]
+#[derive(Clone, Copy)]
 pub enum Fault {
     None,
     // the reply says failed

@@ -3,11 +3,12 @@ use crate::chip::Fault;
 use crate::{chip, say, show};
 use bus::{Action, Reply};
 use host::{Outcome, Sequence};
+use std::io;
 
 // The chip's CSR at first.
 const OLD: u32 = 0x29;
 
-#[derive(Drop)]
+#[derive(Clone, Copy)]
 pub struct Run {
     pub sequence: Sequence,
     pub csr: u32,
@@ -17,47 +18,48 @@ pub struct Run {
 }
 
 // The n-th action, if there is one, and its reply. Both are shown where `shown` is n; where it is 0, the answer too.
-fn turn(run: Run, n: usize, fault: Fault, shown: usize) -> Run {
+fn turn(rt: &impl Print, run: Run, n: usize, fault: Fault, shown: usize) -> io::Result<Run> {
     let sequence = run.sequence;
     let action = host::action(sequence);
     if let Action::Nothing = action {
-        return run;
+        return Ok(run);
     }
     let reply = chip::reply(run.csr, fault, n, action);
     let step = host::reply(sequence, reply);
     let next = step.sequence;
     let outcome = step.outcome;
     if shown == 0 || shown == n {
-        show::line(n, action, reply);
+        show::line(rt, n, action, reply)?;
     }
     if shown == 0 {
-        say::answer(b"", step.number);
-        show::outcome(outcome);
+        say::answer(rt, b"", step.number)?;
+        show::outcome(rt, outcome)?;
     }
-    Run {
+    Ok(Run {
         sequence: next,
         csr: chip::written(run.csr, action),
         count: n,
         number: step.number,
         outcome,
-    }
+    })
 }
 
 // How many actions were handed out, and what the last reply gave.
-fn ended(run: Run, shown: usize) {
+fn ended(rt: &impl Print, run: Run, shown: usize) -> io::Result<()> {
     let outcome = run.outcome;
     if run.count == 0 {
-        say::text(b": hands out nothing");
-        return;
+        say::text(rt, b": hands out nothing")?;
+        return Ok(());
     }
-    say::pick(shown == 0, b"\n      ", b"");
-    say::decimal(b"handed out ", run.count as u64);
-    say::answer(b", ended with ", run.number);
-    show::outcome(outcome);
+    say::pick(rt, shown == 0, b"\n      ", b"")?;
+    say::decimal(rt, b"handed out ", run.count as u64)?;
+    say::answer(rt, b", ended with ", run.number)?;
+    show::outcome(rt, outcome)?;
+    Ok(())
 }
 
 // What one more reply gives: it must not wake the sequence.
-fn more(sequence: Sequence) {
+fn more(rt: &impl Print, sequence: Sequence) -> io::Result<()> {
     let good = Reply {
         failed: false,
         value: 0,
@@ -66,16 +68,17 @@ fn more(sequence: Sequence) {
     let outcome = step.outcome;
     let next = step.sequence;
     let action = host::action(next);
-    say::answer(b"; one more reply: ", step.number);
-    show::outcome(outcome);
+    say::answer(rt, b"; one more reply: ", step.number)?;
+    show::outcome(rt, outcome)?;
     if let Action::Nothing = action {
-        return;
+        return Ok(());
     }
-    say::text(b", AN ACTION");
+    say::text(rt, b", AN ACTION")?;
+    Ok(())
 }
 
 // Twenty turns: no sequence has more than 17 actions.
-pub fn play(first: Sequence, fault: Fault, shown: usize) -> Outcome {
+pub fn play(rt: &impl Print, first: Sequence, fault: Fault, shown: usize) -> io::Result<Outcome> {
     let mut run = Run {
         sequence: first,
         csr: OLD,
@@ -83,30 +86,34 @@ pub fn play(first: Sequence, fault: Fault, shown: usize) -> Outcome {
         number: 0,
         outcome: Outcome::Nothing,
     };
-    let mut n = 0;
-    while n < 20 {
-        n = n + 1;
-        run = turn(run, n, fault, shown);
+    for n in 1..21usize {
+        run = turn(rt, run, n, fault, shown)?;
     }
     let outcome = run.outcome;
     let last = run.sequence;
-    ended(run, shown);
-    more(last);
-    outcome
+    ended(rt, run, shown)?;
+    more(rt, last)?;
+    Ok(outcome)
 }
 
-pub fn titled(title: &[u8], sequence: Sequence, fault: Fault, shown: usize) {
-    say::text(title);
-    show::fault(fault);
-    play(sequence, fault, shown);
+pub fn titled(
+    rt: &impl Print,
+    title: &[u8],
+    sequence: Sequence,
+    fault: Fault,
+    shown: usize,
+) -> io::Result<()> {
+    say::text(rt, title)?;
+    show::fault(rt, fault)?;
+    play(rt, sequence, fault, shown)?;
+    Ok(())
 }
 
 // A run for each of so many actions, in which that one fails.
-pub fn each(title: &[u8], sequence: Sequence, count: usize) {
-    say::text(title);
-    let mut n = 0;
-    while n < count {
-        n = n + 1;
-        play(sequence, Fault::Fails(n), n);
+pub fn each(rt: &impl Print, title: &[u8], sequence: Sequence, count: usize) -> io::Result<()> {
+    say::text(rt, title)?;
+    for n in 1..=count {
+        play(rt, sequence, Fault::Fails(n), n)?;
     }
+    Ok(())
 }
