@@ -1,5 +1,4 @@
 // A profile: its length and its 32 bytes are the caller's.
-ghost use Rattle.std.specs.Prelude.{◌≡◌};
 ghost use Rattle.profile.specs.Lent.{Pushes, Seals};
 ghost use Rattle.boundary.specs.Boundary.{tuning_at, phase_at, acr_at};
 

@@ -1,5 +1,4 @@
 // Streams and the register image.
-ghost use Rattle.std.specs.Prelude.{◌≡◌};
 ghost use Rattle.image.specs.Feed.{Feeds};
 ghost use Rattle.stream.specs.Decoder.{Decodes};
 ghost use Rattle.stream.specs.Encoder.{Encodes};

@@ -14,6 +14,7 @@ pub fn scale(amplitude: f32) -> u32
 }
 
 // What an ACR means: full amplitude where the multiplier is off.
+#[tactic(auto, using(crate::proofs::Literals::one, crate::proofs::Literals::full), unfolding(crate::specs::Amplitude::meaning))]
 pub fn meaning(acr: u32) -> f32
     ensures { result ≡ meaning acr }
 {

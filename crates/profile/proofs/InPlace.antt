@@ -1,4 +1,4 @@
--- What the walks of the in-place functions share. No line looks into the serializer: its machine value is the one that its laws spell.
+-- What a walk by hand of the in-place functions would share; they prove without one. No line looks into the serializer: its machine value is the one that its laws spell.
 --     through                    a walk of a function that calls one other, taken to the function's theorem
 --     asks                       what a callee with no `requires` asks, from the tokens and what the arguments own
 --     free_at                    a local is freed, its cell at a place of the context

@@ -1,10 +1,10 @@
 -- How many bytes the writes of a step take: the rules count what the encoding has.
 --     encode_given, encode_absent   the bytes of a value that is given, and of one that is not
---     length_given     as many as it costs
---     encode_push      a push's bytes, CSR's before the others
---     length_push      as many as the rules say
+--     length_given           as many as it costs
+--     encode_push            a push's bytes, CSR's before the others
+--     length_push            as many as the rules say
 --     padding_writes_bytes   the padding as two values, LSRR before CSR
---     length_padding   as many as the rules say
+--     length_padding         as many as the rules say
 use mathlib.Core.Path.{◌≡◌, refl, ap, ◌∙◌}
 use mathlib.Core.List.{[], ◌∷◌, ◌++◌, append_assoc}
 use Prim.Native.Nat.{ℕ, zero, suc, ◌+◌, ◌%◌}

@@ -81,7 +81,7 @@ fn run<I: Read>(rt: &(impl Print + Eprint), input: &mut I, name: &[u8]) -> io::R
         let n = match input.read(&mut buffer) {
             Ok(n) => n,
             Err(e) => {
-                say::fail(rt, name, e)?;
+                let _ = say::fail(rt, name, e);
                 whole = false;
                 0
             }
@@ -120,7 +120,7 @@ fn run_file(rt: &(impl Print + Eprint + Files), path: &[u8], some: &mut bool) ->
             run(rt, &mut file, path)
         }
         Err(e) => {
-            say::fail(rt, path, e)?;
+            let _ = say::fail(rt, path, e);
             Ok(false)
         }
     }
@@ -158,7 +158,7 @@ fn played(rt: &HostRuntime) -> io::Result<bool> {
             }
             Err(FillError::TooLong) => {
                 // ENAMETOOLONG
-                say::fail(rt, b"an argument", io::Error::from_raw_os_error(36))?;
+                let _ = say::fail(rt, b"an argument", io::Error::from_raw_os_error(36));
                 all = false;
             }
         }

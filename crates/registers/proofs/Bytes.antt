@@ -3,7 +3,7 @@
 --     value_big_endian    reading what was written gives the value
 --     big_endian_value    writing what was read gives the bytes
 --     read_short, read_value   what a reading at a register's width tells
---     write_number_fits       a value that fits its width is refused by Room alone
+--     write_number_fits   a value that fits its width is refused by Room alone
 use mathlib.Core.Path.{◌≡◌, refl, ◌∙◌}
 use mathlib.Core.List.{List, [], ◌∷◌, ◌++◌, append-nil, append_assoc}
 use Prim.Native.Nat.{ℕ, zero, suc, ◌+◌, ◌*◌, ◌/◌, ◌^◌, ◌≤◌, ◌<◌}

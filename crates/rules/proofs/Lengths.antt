@@ -1,10 +1,10 @@
 -- Lengths that are padded, and values that are held.
---     padding_fits     a length that is not full has room for its padding
---     quarters         a padded length is four times its words, by the length modulo 4
---     padded_quarters  so it is a multiple of four
---     padding_writes_given       the padding as two values, LSRR before CSR
---     held_below       a value that is not above some number is held where that is
---     word_held        a tuning word's bits are held by its register
+--     padding_fits          a length that is not full has room for its padding
+--     quarters              a padded length is four times its words, by the length modulo 4
+--     padded_quarters       so it is a multiple of four
+--     padding_writes_given  the padding as two values, LSRR before CSR
+--     held_below            a value that is not above some number is held where that is
+--     word_held             a tuning word's bits are held by its register
 use mathlib.Core.Path.{◌≡◌, refl}
 use mathlib.Core.Bool.{false}
 use mathlib.Core.List.{◌++◌}

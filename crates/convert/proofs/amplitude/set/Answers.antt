@@ -2,7 +2,6 @@ use lib.Dec.{T}
 use mathlib.Core.Path.{subst, sym, ◌∙◌}
 use Rattle.convert.proofs.Achieved.{asf_most, acr_meaning}
 use lib.Ieee.{of_bits, of_int}
-use mathlib.Core.Path.{sym, ◌∙◌}
 use Rattle.convert.proofs.amplitude.set.Goals as goal
 
 pub returns-then-within : goal.returns-then-within
