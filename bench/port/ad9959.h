@@ -1,4 +1,4 @@
-/* The C boundary of the proved AD9959 driver. Written by hand from crates/boundary/src; tests/header.c calls every function.
+/* The C boundary of the proved AD9959 driver. Written by hand from crates/boundary_c/src; tests/header.c calls every function.
  *
  * Each function returns one of the fourteen numbers of crates/registers/specs/Answers.antt (0 is Ok) and asks nothing of its caller but that a
  * pointer is good for what its type says: one value, 32 bytes, or so many elements. Pointers that are written through must not overlap. On a

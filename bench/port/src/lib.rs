@@ -1,7 +1,7 @@
 //! The proved port as a safe Rust library, over its C boundary. `ad9959.h` has the same functions for C.
 /// The C functions as they are.
 pub mod sys {
-    // By hand, from crates/boundary/src. A slice is a pointer and a length. tests/calls.rs calls each.
+    // By hand, from crates/boundary_c/src. A slice is a pointer and a length. tests/calls.rs calls each.
     unsafe extern "C" {
         pub safe fn ad9959_push(mode: u32, length: &mut usize, bytes: &mut [u8; 32], mask: u32, presence: u32, word: i32, phase: u32, acr: u32) -> u32;
         pub unsafe fn ad9959_finalize(mode: u32, length: &mut usize, bytes: &mut [u8; 32], words: *mut u32, words_length: usize, count: &mut usize) -> u32;
