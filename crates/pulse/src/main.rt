@@ -72,7 +72,7 @@ fn chunk(rt: &impl Print, st: State, bytes: &[u8], line: &mut [u8]) -> io::Resul
 }
 
 // A script from its first byte to its last, each line answered as soon as it is there. Whether all of it could be read.
-fn run<I: Read>(rt: &(impl Print + Eprint), input: &mut I, name: &[u8]) -> io::Result<bool> {
+fn run<I: Read>(rt: &impl Print, err: &impl Print, input: &mut I, name: &[u8]) -> io::Result<bool> {
     let mut line = [0u8; 201];
     let mut buffer = [0u8; 4096];
     let mut state = steps::start();
@@ -81,7 +81,7 @@ fn run<I: Read>(rt: &(impl Print + Eprint), input: &mut I, name: &[u8]) -> io::R
         let n = match input.read(&mut buffer) {
             Ok(n) => n,
             Err(e) => {
-                let _ = say::fail(rt, name, e);
+                let _ = say::fail(err, name, e);
                 whole = false;
                 0
             }
@@ -108,7 +108,12 @@ fn opened<R: Files>(rt: &R, path: &[u8]) -> io::Result<R::File> {
 }
 
 // Whether a script in a file could be opened and read. `some`: one has been opened before it.
-fn run_file(rt: &(impl Print + Eprint + Files), path: &[u8], some: &mut bool) -> io::Result<bool> {
+fn run_file(
+    rt: &(impl Print + Files),
+    err: &impl Print,
+    path: &[u8],
+    some: &mut bool,
+) -> io::Result<bool> {
     match opened(rt, path) {
         Ok(mut file) => {
             if *some {
@@ -117,10 +122,10 @@ fn run_file(rt: &(impl Print + Eprint + Files), path: &[u8], some: &mut bool) ->
             *some = true;
             say::plain(rt, path)?;
             say::text(rt, b"\n")?;
-            run(rt, &mut file, path)
+            run(rt, err, &mut file, path)
         }
         Err(e) => {
-            let _ = say::fail(rt, path, e);
+            let _ = say::fail(err, path, e);
             Ok(false)
         }
     }
@@ -135,18 +140,19 @@ fn typed(rt: &HostRuntime) -> io::Result<bool> {
             b"a step a line: mode 3, push 1 word 0x01020304, finalize; Ctrl-D ends\n",
         )?;
     }
-    run(rt, &mut input, b"standard input")
+    run(rt, &rt.stderr(), &mut input, b"standard input")
 }
 
 // Every script that is named, or else what is typed. Whether all could be read.
 fn played(rt: &HostRuntime) -> io::Result<bool> {
+    let err = rt.stderr();
     let mut path = [0u8; 4096];
     let mut some = false;
     let mut all = true;
     for i in 1..usize::MAX {
         match rt.arg(i, &mut path) {
             Ok(n) => {
-                if !run_file(rt, &path[..n], &mut some)? {
+                if !run_file(rt, &err, &path[..n], &mut some)? {
                     all = false;
                 }
             }
@@ -158,7 +164,7 @@ fn played(rt: &HostRuntime) -> io::Result<bool> {
             }
             Err(FillError::TooLong) => {
                 // ENAMETOOLONG
-                let _ = say::fail(rt, b"an argument", io::Error::from_raw_os_error(36));
+                let _ = say::fail(&err, b"an argument", io::Error::from_raw_os_error(36));
                 all = false;
             }
         }
@@ -171,7 +177,7 @@ fn main(rt: HostRuntime) -> ExitCode {
         Ok(true) => ExitCode::SUCCESS,
         Ok(false) => ExitCode::from(2),
         Err(e) => {
-            let _ = say::fail(&rt, b"standard output", e);
+            let _ = say::fail(&rt.stderr(), b"standard output", e);
             ExitCode::FAILURE
         }
     }

@@ -133,24 +133,13 @@ pub fn plain(rt: &impl Print, s: &[u8]) -> io::Result<()> {
     text(rt, &out[0..n])
 }
 
-// A mark for each byte that is not ASCII.
-fn plainer(out: &mut [u8]) {
-    for i in 0..out.len() {
-        if 127 < out[i] {
-            out[i] = b'?';
-        }
-    }
-}
-
-// What a call that has failed was about, and why it failed, on standard error, which takes text alone.
-pub fn fail(rt: &impl Eprint, what: &[u8], why: io::Error) -> io::Result<()> {
+// What a call that has failed was about, and why it failed.
+pub fn fail(err: &impl Print, what: &[u8], why: io::Error) -> io::Result<()> {
     let mut out = [0u8; 4096];
     let n = safe(what, &mut out);
-    if str::from_utf8(&out[0..n]).is_err() {
-        plainer(&mut out);
-    }
-    let shown = str::from_utf8(&out[0..n]).unwrap_or("?");
-    eprintln!(rt; "pulse: {shown}: {why}")
+    err.write_all(b"pulse: ")?;
+    err.write_all(&out[0..n])?;
+    println!(err; ": {why}")
 }
 
 // An answer's number and name, in seven columns where it is one of a step's.
