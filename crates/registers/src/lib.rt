@@ -8,6 +8,7 @@ pub mod big_endian;
 pub mod field;
 pub mod refusal;
 pub mod register;
+pub mod write;
 
 // 2^k.
 fn power(k: u32) -> u64
