@@ -27,7 +27,7 @@ pub fn with_mode(csr: u32, mode: u32) -> Result<u32, Refusal>
     Ok(csr.raw())
 }
 
-// A CSR with other channels: Mask, then Word.
+// A CSR with other channels: Mask, then Word. It stands beside `with_mode`: field, limit and refusal as parameters would be no plainer.
 #[tactic(auto, unfolding(registers::specs::Registers::width_of))]
 pub fn with_channel(csr: u32, mask: u32) -> Result<u32, Refusal>
     ensures { result ≡ with_channel csr mask }

@@ -28,6 +28,7 @@ pub fn read(bytes: &[u8], at: usize, width: usize) -> Result<u32, Refusal>
     Ok(value_of(bytes))
 }
 
+// By places, from the last on: of a slice's `iter_mut().rev()` a proof is told nothing.
 fn lay(bytes: &mut [u8], at: usize, width: usize, value: u32)
     requires { at + width ≤ length bytes.old }
     ensures { bytes.new ≡ laid bytes.old at (big_endian width value) }

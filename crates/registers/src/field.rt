@@ -85,6 +85,8 @@ impl Field {
     }
 }
 
+// The three below take any address and any raw value, as `raw_in`, `get_in` and `set_in` of the definitions do; `Register` is of one address.
+
 // A register's raw value, where it is not too wide.
 pub fn raw_in(address: u32, raw: u32) -> Result<u32, Refusal>
     ensures { result ≡ raw_in address raw }

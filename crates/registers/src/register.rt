@@ -3,7 +3,7 @@ ghost use Rattle.std.specs.Prelude.{◌≡◌, ◌<◌, ◌^◌, ℕ};
 ghost use Rattle.registers.specs.Registers.{width_of};
 ghost use Rattle.registers.specs.Fields.{field_of, raw_in, with_in};
 
-use crate::address;
+use crate::field;
 use crate::field::Field;
 use crate::refusal::Refusal;
 use std::marker::Model;
@@ -30,10 +30,9 @@ impl<const ADDRESS: u32> TryFrom<u32> for Register<ADDRESS> {
     ghost try_from_gives = { λ n r. r ≡ raw_in ADDRESS n };
 
     fn try_from(raw: u32) -> Result<Self, Refusal> {
-        if !address::holds(ADDRESS, raw) {
-            return Err(Refusal::Word);
-        }
-        Ok(Register { raw })
+        Ok(Register {
+            raw: field::raw_in(ADDRESS, raw)?,
+        })
     }
 }
 
