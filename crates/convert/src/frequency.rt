@@ -2,8 +2,8 @@
 ghost use Rattle.std.specs.Prelude.{◌≡◌};
 ghost use Rattle.convert.specs.Frequency.{ready, outside, meaning, word_of, setting_of, reading_of};
 
-use crate::{Driver, Reading, Setting};
-use registers::answer;
+use crate::{Driver, Setting};
+use registers::refusal::Refusal;
 
 // Whether frequencies can be set and read on a ratio.
 pub fn ready(ratio: f32) -> bool
@@ -27,27 +27,30 @@ pub fn meaning(ratio: f32, word: u32) -> f32
 }
 
 // The tuning word of a frequency in Hz, and the frequency that it achieves.
-pub fn set(driver: Driver, frequency: f32) -> Setting
+pub fn set(driver: Driver, frequency: f32) -> Result<Setting, Refusal>
     ensures { result ≡ setting_of driver.ratio frequency }
 {
     let ratio = driver.ratio;
-    if ready(ratio) {
-        if outside(4294967296.0 / ratio, frequency) {
-            return crate::refused(answer::BOUNDS);
-        }
-        let word = binary32::cut(frequency * ratio);
-        return crate::set(word, meaning(ratio, word));
+    if !ready(ratio) {
+        return Err(Refusal::NotReady);
     }
-    crate::refused(answer::NOT_READY)
+    if outside(4294967296.0 / ratio, frequency) {
+        return Err(Refusal::Bounds);
+    }
+    let word = binary32::cut(frequency * ratio);
+    Ok(Setting {
+        word,
+        achieved: meaning(ratio, word),
+    })
 }
 
 // The frequency of a CFTW0 that was read.
-pub fn read(driver: Driver, word: u32) -> Reading
+pub fn read(driver: Driver, word: u32) -> Result<f32, Refusal>
     ensures { result ≡ reading_of driver.ratio word }
 {
-    let ratio = driver.ratio;
-    if ready(ratio) {
-        return crate::read(meaning(ratio, word));
+    if ready(driver.ratio) {
+        Ok(meaning(driver.ratio, word))
+    } else {
+        Err(Refusal::NotReady)
     }
-    crate::unread(answer::NOT_READY)
 }
