@@ -5,7 +5,7 @@ ghost use Rattle.convert.specs.Clock.{system_of, allowed, vco_high_of, clock_of}
 use registers::refusal::Refusal;
 
 // A system clock, FR1's vco_high for it, and the driver's ratio.
-#[derive(Clone, Copy, Default)]
+#[derive(Clone, Copy)]
 pub struct Clock {
     pub system: f32,
     pub vco: u32,

@@ -7,7 +7,7 @@ pub mod frequency;
 pub mod phase;
 
 // A register's word and the value that it achieves.
-#[derive(Clone, Copy, Default)]
+#[derive(Clone, Copy)]
 pub struct Setting {
     pub word: u32,
     pub achieved: f32,
