@@ -45,11 +45,12 @@ pub fn cut16(x: f32) -> u32
     cut(x).min(0xffff)
 }
 
-// The float nearest to n, by std.
+// The float nearest to n: each half is a float exactly, so the sum alone rounds. By halves and not by std's conversion: a rounding of our own
+// is a rule of the project.
 pub fn nearest(n: u32) -> f32
     ensures { result ≡ whole n }
 {
-    num::nearest_u32_to_f32(n)
+    ((n >> 16) as f32) * 65536.0 + ((n & 0xffff) as f32)
 }
 
 // Whether lo..=hi holds x: not where one is a NaN.
