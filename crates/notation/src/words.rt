@@ -1,12 +1,32 @@
 // The words of a line: parted by blanks, up to the line's end or a `#`.
-ghost use Rattle.std.specs.Prelude.{◌≡◌, ◌≤◌, length};
-ghost use Rattle.notation.specs.Words.{stops, seek_of, next_of};
+ghost use Rattle.std.specs.Prelude.{◌≡◌, ◌+◌, ◌<◌, ◌≤◌, length, drop, position, IfSome};
+ghost use Rattle.notation.specs.Words.{stops, seek_of, next_of, part, none};
+ghost use Rattle.notation.specs.Lines.{with_place, value_of};
 
-// A part of a line.
-#[derive(Clone, Copy)]
+use crate::{Fault, digits};
+
+/// A part of a line, from one place up to another.
+#[derive(Clone, Copy, Debug, PartialEq, Eq)]
 pub struct Span {
     pub start: usize,
     pub end: usize,
+}
+
+impl Span {
+    pub(crate) fn is_empty(self) -> bool
+        ensures { result ≡ none self }
+    {
+        self.start == self.end
+    }
+
+    // The part's bytes.
+    pub(crate) fn of(self, line: &[u8]) -> &[u8]
+        requires ordered { self.start ≤ self.end }
+        requires within { self.end ≤ length line.now }
+        ensures { result.now ≡ part line.now self }
+    {
+        &line[self.start..self.end]
+    }
 }
 
 // Whether a search stops at a byte: inside a word it is for the word's end, outside for a start.
@@ -20,29 +40,64 @@ fn stops(inside: bool, b: u8) -> bool
     }
 }
 
+// How far behind `at` a search stops, where it does.
+fn stop(line: &[u8], at: usize, inside: bool) -> Option<usize>
+    ensures place { result ≡ position (stops inside) (drop at line.now) }
+    ensures within { IfSome result (λ n. at + n < length line.now) }
+{
+    line.iter().skip(at).position(|b| stops(inside, *b))
+}
+
 // The first place from `at` on where a search stops, or the line's end.
+#[tactic(auto, unfolding(crate::specs::Words::seek_of))]
 fn seek(line: &[u8], at: usize, inside: bool) -> usize
     ensures place { result ≡ seek_of inside line.now at }
     ensures within { result ≤ length line.now }
     ensures forward { at ≤ length line.now → at ≤ result }
 {
-    let mut i = at;
-    while i < line.len() {
-        if stops(inside, line[i]) {
-            return i;
-        }
-        i = i + 1;
+    match stop(line, at, inside) {
+        Some(n) => at + n,
+        None => line.len(),
     }
-    line.len()
 }
 
-// The next word from `at` on: an empty part at the line's end or before a `#`.
-pub fn next(line: &[u8], at: usize) -> Span
-    ensures place { result ≡ next_of line.now at }
-    ensures ordered { result.start ≤ result.end }
-    ensures within { result.end ≤ length line.now }
-{
-    let start = seek(line, at, false);
-    let end = seek(line, start, true);
-    Span { start, end }
+// The words of a line, read one after another from a place on.
+#[derive(Drop)]
+pub struct Words<'a> {
+    pub line: &'a [u8],
+    pub at: usize,
+}
+
+impl<'a> Words<'a> {
+    pub fn of(line: &'a [u8]) -> Words<'a>
+        ensures line { result.line.now ≡ line.now }
+        ensures start { result.at ≡ 0 }
+    {
+        Words { line, at: 0 }
+    }
+
+    // The next word: an empty part at the line's end or before a `#`.
+    #[tactic(auto, unfolding(crate::specs::Words::next_of))]
+    pub fn next(&mut self) -> Span
+        ensures word { result ≡ next_of self.old.line.now self.old.at }
+        ensures behind { self.new.at ≡ result.end }
+        ensures line { self.new.line.now ≡ self.old.line.now }
+        ensures ordered { result.start ≤ result.end }
+        ensures within { result.end ≤ length self.old.line.now }
+    {
+        let start = seek(self.line, self.at, false);
+        let end = seek(self.line, start, true);
+        self.at = end;
+        Span { start, end }
+    }
+
+    // The next word as a number.
+    #[tactic(auto, unfolding(crate::specs::Lines::value_of))]
+    pub fn number(&mut self, signed: bool) -> Result<u32, Fault>
+        ensures number { with_place result self.new.at ≡ value_of self.old.line.now self.old.at signed }
+        ensures line { self.new.line.now ≡ self.old.line.now }
+    {
+        let part = self.next();
+        digits::read(part.of(self.line), signed).map_err(|reason| Fault { reason, part })
+    }
 }
