@@ -41,7 +41,7 @@ done d bs n i h =
     rw p (laid_nil d i)
 
 -- a store of the next word
-step : (d bs : List ℕ) (n i j x : ℕ) → j ≡ i + 1 → i < n → n ≤ length d → x ≡ four_of (drop (i * 4) bs) → left_of n j (set d i x) bs ≡ left_of n i d bs
+pub step : (d bs : List ℕ) (n i j x : ℕ) → j ≡ i + 1 → i < n → n ≤ length d → x ≡ four_of (drop (i * 4) bs) → left_of n j (set d i x) bs ≡ left_of n i d bs
 step d bs n i j x e h k f = rw e (turn d bs n i x h k f)
 
 pub whole : (d bs : List ℕ) (n : ℕ) → left_of n 0 d bs ≡ laid d 0 (words_of n bs)

@@ -4,24 +4,15 @@ ghost use Rattle.registers.specs.Bytes.{laid};
 ghost use Rattle.profile.specs.Serializer.{four_of, words_of};
 ghost use Rattle.profile.specs.Lent.{left_of};
 
-fn wide(x: u8) -> u32
-    ensures { (result ≡ x) × (result < 256) }
-{
-    x as u32
-}
-
 fn word_at(bytes: &[u8], at: usize) -> u32
     requires { at + 4 ≤ length bytes.now }
     ensures { result ≡ four_of (drop at bytes.now) }
 {
-    let a = wide(bytes[at]);
-    let b = wide(bytes[at + 1]);
-    let c = wide(bytes[at + 2]);
-    let d = wide(bytes[at + 3]);
-    a + b * 256 + c * 65536 + d * 16777216
+    u32::from_le_bytes([bytes[at], bytes[at + 1], bytes[at + 2], bytes[at + 3]])
 }
 
-// Of n words the four from i on: loads first and stores after, so that each four become one.
+// Of n words the four from i on: loads first and stores after, so that each four become one. (A `for` over the words
+// becomes a call of memcpy, which the C archive would then miss, and costs more instructions.)
 #[tactic(auto, using(crate::proofs::Left::four_words))]
 fn four(bytes: &[u8], n: usize, i: usize, words: &mut [u32])
     requires { (n * 4 ≤ length bytes.now) × (n ≤ length words.old) × (n ≤ 8) × (i + 4 ≤ n) }

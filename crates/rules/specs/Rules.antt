@@ -71,6 +71,11 @@ finalize_judged mode n words =
     (cond (full 32 n || ltb words (quarter n)) (Err Room)
     (Ok (quarter n)))
 
+-- an answer without what it carries
+abbrev pub answer_of : {A : Type 0} → Result A Refusal → Result Unit Refusal
+answer_of (Ok x) = Ok tt
+answer_of (Err e) = Err e
+
 -- ---- register writes
 
 abbrev pub csr : ℕ → ℕ → Write

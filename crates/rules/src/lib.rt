@@ -6,7 +6,7 @@ ghost use Rattle.rules.specs.Rules.{bits_of, signed_of, push_size};
 
 pub mod judge;
 
-// What is set on the channels of a mask: a field that is not given stays as it is on the chip.
+/// What is set on the channels of a mask: a field that is not given stays as it is on the chip.
 #[derive(Clone, Copy, Debug, PartialEq, Eq)]
 pub struct Push {
     pub mask: u32,
