@@ -1,4 +1,5 @@
 // What Rust's casts do with an f32, worked out by the port itself, and its bit pattern.
+// Functions and no `From`: between f32 and u32 there are several conversions, and both types are std's.
 #![tactic(auto)]
 
 ghost use Rattle.std.specs.Prelude.{◌≡◌, ◌-◌, ◌*◌, ◌/◌, ◌^◌, ◌≤◌, min, from_bits, to_bits};

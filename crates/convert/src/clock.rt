@@ -1,10 +1,10 @@
-// The system clock.
+// The system clock. Reference and multiplier stay two parameters: `clock::of` may not change, and a type for the two would serve it alone.
 ghost use Rattle.std.specs.Prelude.{◌≡◌};
 ghost use Rattle.convert.specs.Clock.{system_of, allowed, vco_high_of, clock_of};
 
 use registers::refusal::Refusal;
 
-// A system clock, FR1's vco_high for it, and the driver's ratio.
+// A system clock, FR1's vco_high for it as the field's value, and the driver's ratio.
 #[derive(Clone, Copy)]
 pub struct Clock {
     pub system: f32,

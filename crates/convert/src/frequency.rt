@@ -19,7 +19,7 @@ fn outside(limit: f32, frequency: f32) -> bool
     frequency < 0.0 || limit < frequency
 }
 
-// What a tuning word means on a ratio, in Hz.
+// What a tuning word means on a ratio, in Hz. Ratio and word stay two parameters: `frequency::meaning` may not change.
 pub fn meaning(ratio: f32, word: u32) -> f32
     ensures { result ≡ meaning ratio word }
 {
@@ -30,17 +30,16 @@ pub fn meaning(ratio: f32, word: u32) -> f32
 pub fn set(driver: Driver, frequency: f32) -> Result<Setting, Refusal>
     ensures { result ≡ setting_of driver.ratio frequency }
 {
-    let ratio = driver.ratio;
-    if !ready(ratio) {
+    if !ready(driver.ratio) {
         return Err(Refusal::NotReady);
     }
-    if outside(4294967296.0 / ratio, frequency) {
+    if outside(4294967296.0 / driver.ratio, frequency) {
         return Err(Refusal::Bounds);
     }
-    let word = binary32::cut(frequency * ratio);
+    let word = binary32::cut(frequency * driver.ratio);
     Ok(Setting {
         word,
-        achieved: meaning(ratio, word),
+        achieved: meaning(driver.ratio, word),
     })
 }
 

@@ -1,4 +1,5 @@
 // From floats to register words and back: clock, frequency, phase, amplitude.
+// Functions and no `From`: words and values are plain u32 and f32, and what one means depends on the register.
 #![tactic(auto, using(crate::proofs::Literals::literals))]
 
 pub mod amplitude;
