@@ -11,7 +11,7 @@ use registers::refusal::Refusal;
 use registers::write::Write;
 use stream::Writes;
 
-// The image's words.
+// The image's words. An image is any slice of so many or more: C hands one in, and `past_stays` speaks of longer ones.
 pub const WORDS: usize = 91;
 
 // Register a of each channel that the mask selects is set to a value.
@@ -27,18 +27,18 @@ fn give(image: &mut [u32], mask: u32, a: usize, value: u32)
     }
 }
 
-fn write(image: &mut [u32], one: Write)
+fn write(image: &mut [u32], next: Write)
     requires long { 91 ≤ length image.old }
-    requires named { one.address < 25 }
-    ensures { image.new ≡ write one image.old }
+    requires named { next.address < 25 }
+    ensures { image.new ≡ write next image.old }
 {
-    let at = one.address as usize;
-    if one.address < address::CFR {
-        image[at] = one.value;
-        return;
+    let at = next.address as usize;
+    if next.address < address::CFR {
+        image[at] = next.value;
+    } else {
+        let csr = image[0];
+        give(image, csr / 16, at, next.value);
     }
-    let csr = image[0];
-    give(image, csr / 16, at, one.value);
 }
 
 // Plays a stream's writes.

@@ -1,9 +1,8 @@
 // Register writes to bytes and back.
 #![tactic(auto)]
 
-ghost use Rattle.std.specs.Prelude.{◌≡◌, ◌+◌, ◌^◌, ◌<◌, ◌≤◌, length, Ok, Err, MatchResult, IfOk, OnOk, OnErr};
+ghost use Rattle.std.specs.Prelude.{◌≡◌, ◌<◌, ◌≤◌, length, Ok, Err, MatchResult, IfOk, OnOk, OnErr};
 ghost use Rattle.registers.specs.Bytes.{laid};
-ghost use Rattle.registers.specs.Registers.{width_of};
 ghost use Rattle.stream.specs.Streams.{write_bytes, encode};
 ghost use Rattle.stream.specs.Decoder.{first_of, items_of, decode_of, writes_of, count_of, decode_judged, Filled};
 ghost use Rattle.stream.specs.Left.{items_left};
@@ -26,10 +25,8 @@ pub fn first(bytes: &[u8]) -> Result<(Write, &[u8]), Refusal>
         return Err(Refusal::Address);
     }
     let width = address::width(address);
-    match big_endian::read(rest, 0, width) {
-        Ok(value) => Ok((Write { address, value }, &rest[width..])),
-        Err(refusal) => Err(refusal),
-    }
+    let value = big_endian::read(rest, 0, width)?;
+    Ok((Write { address, value }, &rest[width..]))
 }
 
 /// A stream's writes, one by one: a refusal is the last item.
@@ -94,18 +91,16 @@ fn fill(bytes: &[u8], addresses: &mut [u32], values: &mut [u32])
     requires values { length (items_of bytes.now) ≤ length values.old }
     ensures { Filled (writes_of bytes.now) addresses.old values.old addresses.new values.new }
 {
-    let mut count = 0;
-    for write in Writes::new(bytes) {
+    for (place, write) in Writes::new(bytes).enumerate() {
         let Ok(write) = write else {
             return;
         };
-        addresses[count] = write.address;
-        values[count] = write.value;
-        count += 1;
+        addresses[place] = write.address;
+        values[place] = write.value;
     }
 }
 
-// Decodes a stream into two buffers: how many writes there are.
+// Decodes a stream into two buffers, as the C interface has them: how many writes there are.
 #[tactic(auto, using(crate::proofs::Steps::counted))]
 pub fn decode(bytes: &[u8], addresses: &mut [u32], values: &mut [u32]) -> Result<usize, Refusal>
     ensures judged { result ≡ decode_judged bytes.now (length addresses.old) (length values.old) }
@@ -192,7 +187,7 @@ fn lay_each(addresses: &[u32], values: &[u32], count: usize, bytes: &mut [u8])
     }
 }
 
-// Encodes writes into a buffer: how many bytes they take.
+// Encodes writes, in two lists as the C interface has them, into a buffer: how many bytes they take.
 #[tactic(auto, using(crate::proofs::Rest::sizes_length))]
 pub fn encode(
     addresses: &[u32],
