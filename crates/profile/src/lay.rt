@@ -10,7 +10,7 @@ use registers::write::Write;
 use rules::{Push, judge};
 
 // A value's write, if it is given: the place behind it.
-#[tactic(auto, using(stream::proofs::Streams::length_write, stream::proofs::Rest::fault_clear, stream::proofs::Lays::lays_good, crate::proofs::Sizes::encode_given, crate::proofs::Sizes::encode_absent, crate::proofs::Sizes::length_given, crate::proofs::Puts::puts_none))]
+#[tactic(auto, using(stream::proofs::Streams::length_write, stream::proofs::Rest::fault_clear, stream::proofs::Lays::lays_good, crate::proofs::Sizes::encode_given, crate::proofs::Sizes::length_given, crate::proofs::Puts::puts_none))]
 fn given(bytes: &mut [u8], at: usize, address: u32, value: Option<u32>) -> usize
     requires { (address < 25) × Held address value × (at + length (encode (given address value)) ≤ length bytes.old) }
     ensures { Puts bytes.old at (encode (given address value)) result bytes.new }

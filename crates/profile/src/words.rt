@@ -11,8 +11,8 @@ fn word_at(bytes: &[u8], at: usize) -> u32
     u32::from_le_bytes([bytes[at], bytes[at + 1], bytes[at + 2], bytes[at + 3]])
 }
 
-// Of n words the four from i on: loads first and stores after, so that each four become one. (A `for` over the words
-// becomes a call of memcpy, which the C archive would then miss, and costs more instructions.)
+// Of n words the four from i on: loads first and stores after, so that each four become one.
+// A `for` over the words misses this speed: it becomes a call of memcpy, which the C archive hasn't got.
 #[tactic(auto, using(crate::proofs::Left::four_words))]
 fn four(bytes: &[u8], n: usize, i: usize, words: &mut [u32])
     requires { (n * 4 ≤ length bytes.now) × (n ≤ length words.old) × (n ≤ 8) × (i + 4 ≤ n) }

@@ -43,6 +43,9 @@ made mode s q = go (ltb 3 mode) refl q
     go true e q = absurd (cc)
     go false e q = (ltb-false 3 mode e, cc)
 
-pub code_means : (mode : ℕ) (steps : List Step) (image : List ℕ) (s e : ProfileSerializer) → 91 ≤ length image
-    → new_of mode ≡ Ok s → Calls steps s e → (feed_judged_of e image ≡ Ok tt) × (fed_of e image ≡ meaning mode steps image)
-code_means mode steps image s e l q c = let m = made mode s q in rw (calls_run c, m.1) (fed mode steps image m.0 l)
+pub code_means : (mode : ℕ) (steps : List Step) (image : List ℕ) (s e : ProfileSerializer) (answer : Result (Unit {0}) Refusal) (image' : List ℕ) → 91 ≤ length image
+    → new_of mode ≡ Ok s → Calls steps s e → answer ≡ feed_judged_of e image → image' ≡ fed_of e image → (answer ≡ Ok tt) × (image' ≡ meaning mode steps image)
+code_means mode steps image s e answer image' l q c a i =
+    let m = made mode s q in
+    let f = fed mode steps image m.0 l in
+    (a ∙ rw (calls_run c, m.1) f.0, i ∙ rw (calls_run c, m.1) f.1)

@@ -18,6 +18,7 @@ pub enum Step {
 }
 
 /// A step from numbers: kind 0 is a push, any other a finalisation into a buffer of `mask` words.
+// `replay` reads its steps as numbers, and any number makes a step.
 #[tactic(auto, unfolding(crate::specs::Play::step_at))]
 pub fn step_of(kind: u32, mask: u32, presence: u32, word: i32, phase: u32, acr: u32) -> Step
     ensures { result ≡ step_at kind mask presence word phase acr }

@@ -20,6 +20,7 @@ fn run(serializer: ProfileSerializer, steps: &[Step]) -> ProfileSerializer
 }
 
 /// Plays so many steps on a new serializer and feeds its bytes to an image.
+// The count stays beside the slice: that a list shorter than it is refused is promised.
 pub fn play(mode: u32, count: usize, steps: &[Step], image: &mut [u32]) -> Result<(), Refusal>
     ensures judged { result ≡ play_judged mode count steps.now image.old }
     ensures played { OnOk result (image.new ≡ meaning mode (take count steps.now) image.old) }
