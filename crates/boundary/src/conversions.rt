@@ -9,7 +9,7 @@ ghost use Rattle.convert.specs.Phase as Phase;
 ghost use Rattle.convert.specs.Amplitude as Amplitude;
 ghost use Rattle.boundary.specs.Boundary.{no_clock, no_setting};
 
-use crate::given;
+use crate::{give, given};
 use convert::clock::Clock;
 use convert::{Driver, Setting, amplitude, clock, frequency, phase};
 
@@ -79,25 +79,19 @@ pub fn ad9959_read_frequency(ratio: f32, word: u32, value: &mut f32) -> u32
     ensures number { result ≡ number_of (Frequency.reading_of ratio word) }
     ensures value { value.new ≡ result_unwrap_or (Frequency.reading_of ratio word) (whole 0) }
 {
-    let (number, read) = given(frequency::read(Driver { mode: 0, ratio }, word), 0.0);
-    *value = read;
-    number
+    give(frequency::read(Driver { mode: 0, ratio }, word), 0.0, value)
 }
 
 pub fn ad9959_read_phase(word: u32, value: &mut f32) -> u32
     ensures number { result ≡ number_of (Phase.reading_of word) }
     ensures value { value.new ≡ result_unwrap_or (Phase.reading_of word) (whole 0) }
 {
-    let (number, read) = given(phase::read(word), 0.0);
-    *value = read;
-    number
+    give(phase::read(word), 0.0, value)
 }
 
 pub fn ad9959_read_amplitude(acr: u32, value: &mut f32) -> u32
     ensures number { result ≡ number_of (Amplitude.reading_of acr) }
     ensures value { value.new ≡ result_unwrap_or (Amplitude.reading_of acr) (whole 0) }
 {
-    let (number, read) = given(amplitude::read(acr), 0.0);
-    *value = read;
-    number
+    give(amplitude::read(acr), 0.0, value)
 }

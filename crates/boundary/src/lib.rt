@@ -21,3 +21,14 @@ fn given<T: Copy>(answer: Result<T, Refusal>, zeros: T) -> (u32, T)
 {
     (refusal::number(&answer), answer.unwrap_or(zeros))
 }
+
+// The same with the value in its place.
+#[inline(always)]
+fn give<T: Copy>(answer: Result<T, Refusal>, zeros: T, place: &mut T) -> u32
+    ensures number { result ≡ number_of answer }
+    ensures value { place.new ≡ result_unwrap_or answer zeros }
+{
+    let (number, value) = given(answer, zeros);
+    *place = value;
+    number
+}

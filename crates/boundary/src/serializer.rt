@@ -7,7 +7,7 @@ ghost use Rattle.profile.specs.Serializer.{push_of, finalized_of, handed};
 ghost use Rattle.profile.specs.Lent.{held};
 ghost use Rattle.boundary.specs.Boundary.{push_at};
 
-use crate::given;
+use crate::give;
 use profile::lent;
 use registers::refusal;
 use rules::Push;
@@ -80,7 +80,5 @@ pub fn ad9959_finalize(
     ensures handed { result ≡ 0 → words.new ≡ handed (held mode len.old bytes.old) words.old }
     ensures untouched { result ≢ 0 → words.new ≡ words.old }
 {
-    let (number, handed) = given(lent::finalize(mode, len, bytes, words), 0);
-    *count = handed;
-    number
+    give(lent::finalize(mode, len, bytes, words), 0, count)
 }

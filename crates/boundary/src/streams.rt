@@ -8,7 +8,7 @@ ghost use Rattle.stream.specs.Streams.{encode};
 ghost use Rattle.stream.specs.Decoder.{writes_of, decode_judged, Filled};
 ghost use Rattle.stream.specs.Encoder.{pairs, encode_judged};
 
-use crate::given;
+use crate::give;
 use registers::refusal;
 
 // The writes of a stream, as addresses and values, and how many there are.
@@ -24,9 +24,7 @@ pub fn ad9959_decode(
     ensures addresses_kept { result ≢ 0 → addresses.new ≡ addresses.old }
     ensures values_kept { result ≢ 0 → values.new ≡ values.old }
 {
-    let (number, found) = given(stream::decode(bytes, addresses, values), 0);
-    *count = found;
-    number
+    give(stream::decode(bytes, addresses, values), 0, count)
 }
 
 // The stream of so many writes, and its length.
@@ -42,9 +40,7 @@ pub fn ad9959_encode(
     ensures encoded { result ≡ 0 → bytes.new ≡ laid bytes.old 0 (encode (pairs count addresses.now values.now)) }
     ensures kept { result ≢ 0 → bytes.new ≡ bytes.old }
 {
-    let (number, size) = given(stream::encode(addresses, values, count, bytes), 0);
-    *len = size;
-    number
+    give(stream::encode(addresses, values, count, bytes), 0, len)
 }
 
 // A stream fed to an image of 91 words.
