@@ -1,8 +1,8 @@
 -- A host's loop over a sequence that follows a table of steps:
---     nothing-left   where nothing is handed out, no reply comes
---     ends-now       an answer that ends the sequence ends the run
---     goes-more      any other takes it a step on
---     brought-by     where a run brings a value, one of the replies brought it
+--     nothing_left   where nothing is handed out, no reply comes
+--     ends_now       an answer that ends the sequence ends the run
+--     goes_more      any other takes it a step on
+--     brought_by     where a run brings a value, one of the replies brought it
 use mathlib.Core.Path.{◌≡◌, refl, sym, ap, subst, ◌∙◌}
 use mathlib.Core.Bool.{true}
 use mathlib.Core.List.{List, [], ◌∷◌, ◌++◌}

@@ -2,6 +2,7 @@
 --     stands          a record of its own hands out its table's entry at its step
 --     not_own         any other hands out nothing, and neither does one past its table (beyond)
 --     within          a record with an action is one of its own, and its step is within its table; so is one whose reply is good (answered)
+--     some_below      what is wrong with a reply is Over only where there is no action
 --     good_some       where a reply is good there was an action
 --     judges          a good reply brings what the sequence's own judgement says; what was brought well was so judged (brings)
 --     refuses         a bad one brings what is wrong with it
@@ -75,7 +76,7 @@ below (Configure m) r = by Below r.failed (λ e. omega arith) (λ e. omega arith
 below (Write a v) r = by Below r.failed (λ e. omega arith) (λ e. omega arith)
 below (Read a) r = by Below r.failed (λ e. omega arith) (λ e. by Below (holds a r.value) (λ f. omega arith) (λ f. omega arith))
 
--- a number below Over, wherever there is an action
+-- its number is below Over's, wherever there is an action
 pub some_below : (x : Option Action) (r : Reply) → Here x → number_of (fault_of x r) < 13
 some_below x r h = rw h.1 (below h.0 r)
 

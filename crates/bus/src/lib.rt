@@ -11,12 +11,12 @@ ghost use Rattle.bus.specs.Sequence.{Plan, Follows, Ran, action, answer, after};
 use registers::address;
 use registers::refusal::Refusal;
 
-// A pin stays a u32: an action may be made by hand, and `fault` answers one at any pin.
 pub const IO_UPDATE: u32 = 0;
 
 pub const RESET: u32 = 1;
 
 // What a sequence hands out: a pin and whether it goes high, microseconds, a wire mode, an address and a value, an address.
+// All are u32, as in `fault`'s clause: an enum for the pin or the mode would ask more of who makes an action by hand.
 #[derive(Clone, Copy, Debug, PartialEq, Eq)]
 pub enum Action {
     Pin(u32, bool),
@@ -26,7 +26,8 @@ pub enum Action {
     Read(u32),
 }
 
-// What the host says of an action: whether it failed, and what was read.
+// What the host says of an action: whether it failed, and what was read. The flag stays beside the value: `failed_fault`
+// and `failed_stops` speak of a failed reply with any value, which counts for nothing.
 #[derive(Clone, Copy, Debug, PartialEq, Eq)]
 pub struct Reply {
     pub failed: bool,
@@ -115,15 +116,11 @@ pub trait Bus {
 pub fn run<S: Sequence, B: Bus>(sequence: &mut S, bus: &mut B) -> Result<S::Output, Refusal>
     ensures { Ran S.plan B.gives sequence.old bus.old result sequence.new bus.new }
 {
-    loop {
-        let Some(action) = sequence.action() else {
-            return Err(Refusal::Over);
-        };
+    while let Some(action) = sequence.action() {
         let reply = bus.play(action);
-        match sequence.reply(reply) {
-            Ok(None) => {}
-            Ok(Some(output)) => return Ok(output),
-            Err(refusal) => return Err(refusal),
+        if let Some(output) = sequence.reply(reply)? {
+            return Ok(output);
         }
     }
+    Err(Refusal::Over)
 }

@@ -10,13 +10,15 @@ use convert::{Driver, amplitude, frequency, phase};
 use registers::address;
 use registers::refusal::Refusal;
 
-// What is done with the register: a word written to it, or its word read.
+// What is done with the register: a word written to it, or its word read. No Option: None would have to mean a reading.
 #[derive(Clone, Copy, Debug, PartialEq, Eq)]
 pub enum Access {
     Set(u32),
     Get,
 }
 
+// Of the driver's record it keeps what its actions and its result need. These are fields of its own, since the laws of
+// `Transfers` and `Begins` speak of a sequence's mode and ratio, and a hand-made one may have any.
 #[derive(Clone, Copy)]
 pub struct Transfer {
     pub step: u32,

@@ -45,17 +45,16 @@ impl Sequence for SelfTest {
 
     #[tactic(auto, unfolding(bus::specs::Sequence::action))]
     fn action(&self) -> Option<Action> {
-        let old = self.old;
-        if !address::holds(address::CSR, old) {
+        if !address::holds(address::CSR, self.old) {
             return None;
         }
         let plan = [
             Action::Read(address::CSR),
-            Action::Write(address::CSR, old % 16 + 240),
+            Action::Write(address::CSR, self.old % 16 + 240),
             Action::Read(address::CSR),
-            Action::Write(address::CSR, old % 16),
+            Action::Write(address::CSR, self.old % 16),
             Action::Read(address::CSR),
-            Action::Write(address::CSR, old),
+            Action::Write(address::CSR, self.old),
         ];
         plan.get(self.step as usize).copied()
     }

@@ -89,7 +89,6 @@ impl Sequence for Startup {
         if !self.legal() {
             return None;
         }
-        let mode = self.mode;
         let csr = self.csr();
         let fr1 = self.word();
         let plan = [
@@ -102,7 +101,7 @@ impl Sequence for Startup {
             Action::Pin(IO_UPDATE, true),
             Action::Delay(5),
             Action::Pin(IO_UPDATE, false),
-            Action::Configure(mode),
+            Action::Configure(self.mode),
             Action::Delay(5),
             Action::Read(address::CSR),
             Action::Read(address::FR1),
