@@ -74,9 +74,11 @@ pub trait Sequence {
     fn judge(&self, value: u32) -> Result<Option<Self::Output>, Refusal>
         ensures { result ≡ plan.judge self.now value };
 
+    // Each kind's own: what it keeps of a value. Any step has one after it: the largest of a u32 stays.
     fn onward(&mut self, value: u32)
         ensures { self.new ≡ plan.onward self.old value };
 
+    // Each kind's own: the step past its table.
     fn end(&mut self)
         ensures { self.new ≡ plan.ended self.old };
 

@@ -29,7 +29,7 @@ pub struct Transfer {
     pub ratio: f32,
 }
 
-// The reading of a register: Mode, then Mask.
+// The reading of a register: Mode, then Mask. Driver and mask stay two parameters: one record serves every mask.
 fn begin(driver: Driver, mask: u32, register: u32) -> Result<Transfer, Refusal>
     ensures { result ≡ begin_of driver mask register (Ok Get) }
 {
@@ -87,6 +87,7 @@ pub fn get_frequency(driver: Driver, mask: u32) -> Result<Transfer, Refusal>
     Ok(reading)
 }
 
+// The two readings that nothing else refuses: two names of one line, which callers know.
 pub fn get_phase(driver: Driver, mask: u32) -> Result<Transfer, Refusal>
     ensures { result ≡ get_phase driver mask }
 {
@@ -132,24 +133,26 @@ impl Access {
     }
 }
 
-// One of the three registers, and a ratio for the one that needs it.
-fn own(register: u32, ratio: f32) -> bool
-    ensures { result ≡ own register ratio }
-{
-    match register {
-        address::CFTW0 => frequency::ready(ratio),
-        address::CPOW0 | address::ACR => true,
-        _ => false,
+impl Transfer {
+    // One of the three registers, and a ratio for the one that needs it.
+    fn own(self) -> bool
+        ensures { result ≡ own self.register self.ratio }
+    {
+        match self.register {
+            address::CFTW0 => frequency::ready(self.ratio),
+            address::CPOW0 | address::ACR => true,
+            _ => false,
+        }
     }
-}
 
-fn meaning(register: u32, ratio: f32, word: u32) -> f32
-    ensures { result ≡ meaning_of register ratio word }
-{
-    match register {
-        address::CFTW0 => frequency::meaning(ratio, word),
-        address::CPOW0 => phase::meaning(word),
-        _ => amplitude::meaning(word),
+    fn meaning(self, word: u32) -> f32
+        ensures { result ≡ meaning_of self.register self.ratio word }
+    {
+        match self.register {
+            address::CFTW0 => frequency::meaning(self.ratio, word),
+            address::CPOW0 => phase::meaning(word),
+            _ => amplitude::meaning(word),
+        }
     }
 }
 
@@ -166,7 +169,7 @@ impl Sequence for Transfer {
     #[tactic(auto, using(crate::proofs::Channels::selects), unfolding(bus::specs::Sequence::action, crate::specs::Channel::legal))]
     fn action(&self) -> Option<Action> {
         let csr = csr::of(self.mode, self.mask).ok()?;
-        if !own(self.register, self.ratio) || !self.access.fits(self.register) {
+        if !self.own() || !self.access.fits(self.register) {
             return None;
         }
         let plan = [
@@ -181,7 +184,7 @@ impl Sequence for Transfer {
             return Ok(None);
         }
         let word = self.access.word(value);
-        Ok(Some(meaning(self.register, self.ratio, word)))
+        Ok(Some(self.meaning(word)))
     }
 
     fn onward(&mut self, _value: u32) {

@@ -14,22 +14,22 @@ pub struct Register {
     pub address: u32,
 }
 
+fn start(address: u32) -> Register
+    ensures { result ≡ start address }
+{
+    Register { step: 0, address }
+}
+
 pub fn csr() -> Register
     ensures { result ≡ start CSR }
 {
-    Register {
-        step: 0,
-        address: address::CSR,
-    }
+    start(address::CSR)
 }
 
 pub fn fr1() -> Register
     ensures { result ≡ start FR1 }
 {
-    Register {
-        step: 0,
-        address: address::FR1,
-    }
+    start(address::FR1)
 }
 
 impl Sequence for Register {

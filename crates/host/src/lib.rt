@@ -13,6 +13,7 @@ use registers::refusal::Refusal;
 use self_test::SelfTest;
 use startup::Startup;
 
+// An enum and no dyn: a trait with an associated type and a final function makes none.
 #[derive(Clone, Copy)]
 pub enum Kind {
     Startup(Startup),
