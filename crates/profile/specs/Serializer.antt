@@ -9,7 +9,6 @@ use Rattle.stream.specs.Streams.{encode}
 use Rattle.image.specs.Feed.{feed_judged, feed_of}
 use Rattle.profile.specs.declared.ProfileSerializer.{ProfileSerializer}
 use Rattle.profile.specs.declared.Stepped.{Stepped}
-use Rattle.profile.specs.declared.Finalized.{Finalized}
 use Rattle.rules.specs.declared.Push.{Push}
 use Rattle.rules.specs.Rules.{push_size, padding, quarter, push_judged, finalize_judged, answer_of, push_writes, padding_writes}
 
@@ -30,7 +29,7 @@ abbrev pub pushed : ProfileSerializer → Push → ProfileSerializer
 pushed s p = grown s (push_size p) (push_writes s.mode p)
 
 -- a refused push keeps the length and all 32 bytes
-unfoldable pub push_of : ProfileSerializer → Push → Stepped
+unfoldable pub push_of : ProfileSerializer → Push → Stepped Unit
 push_of s p =
     let judged = push_judged s.mode s.length p in
     record { answer = answer_of judged; serializer = cond (is_ok judged) (pushed s p) s }
@@ -56,7 +55,7 @@ unfoldable pub finalized_of : ProfileSerializer → ℕ → ProfileSerializer
 finalized_of s words = cond (is_ok (finalize_judged s.mode s.length words)) (padded s) s
 
 -- the answer is how many words were handed out
-abbrev pub finalize_of : ProfileSerializer → ℕ → Finalized
+abbrev pub finalize_of : ProfileSerializer → ℕ → Stepped ℕ
 finalize_of s words = record { answer = finalize_judged s.mode s.length words; serializer = finalized_of s words }
 
 -- the bytes that are meant: those below the length

@@ -20,17 +20,10 @@ pub struct ProfileSerializer {
     pub bytes: [u8; 32],
 }
 
-/// A push's answer, and the serializer: as it was, where the answer is a refusal.
+/// A step's answer (finalising's is how many words it handed out), and the serializer: as it was, where the answer is a refusal.
 #[derive(Clone, Copy)]
-pub struct Stepped {
-    pub answer: Result<(), Refusal>,
-    pub serializer: ProfileSerializer,
-}
-
-/// How many words finalising handed out, and the serializer likewise.
-#[derive(Clone, Copy)]
-pub struct Finalized {
-    pub answer: Result<usize, Refusal>,
+pub struct Stepped<T> {
+    pub answer: Result<T, Refusal>,
     pub serializer: ProfileSerializer,
 }
 
@@ -72,7 +65,7 @@ impl ProfileSerializer {
 
 /// A push by value: the method is a thin layer over the same work, which `lent` does.
 #[tactic(auto, unfolding(crate::specs::Serializer::push_of))]
-pub fn push(serializer: ProfileSerializer, push: Push) -> Stepped
+pub fn push(serializer: ProfileSerializer, push: Push) -> Stepped<()>
     ensures { result ≡ push_of serializer push }
 {
     let mut after = serializer;
@@ -85,14 +78,14 @@ pub fn push(serializer: ProfileSerializer, push: Push) -> Stepped
 
 /// Finalising by value.
 #[tactic(auto, unfolding(crate::specs::Serializer::finalized_of))]
-pub fn finalize(serializer: ProfileSerializer, words: &mut [u32]) -> Finalized
+pub fn finalize(serializer: ProfileSerializer, words: &mut [u32]) -> Stepped<usize>
     ensures finalized { result ≡ finalize_of serializer (length words.old) }
     ensures handed { OnOk result.answer (words.new ≡ handed serializer words.old) }
     ensures untouched { OnErr result.answer (words.new ≡ words.old) }
 {
     let mut after = serializer;
     let answer = after.finalize(words);
-    Finalized {
+    Stepped {
         answer,
         serializer: after,
     }

@@ -15,7 +15,6 @@ use Rattle.registers.specs.declared.refusal.Refusal.{Refusal}
 use Rattle.registers.specs.declared.refusal.Refusal.TheVariants.{Mode}
 use Rattle.profile.specs.declared.ProfileSerializer.{ProfileSerializer}
 use Rattle.profile.specs.declared.Stepped.{Stepped}
-use Rattle.profile.specs.declared.Finalized.{Finalized}
 use Rattle.profile.specs.Serializer.{fresh, new_of, feed_judged_of, fed_of}
 use Rattle.script.specs.declared.Step.{Step}
 use Rattle.script.specs.Meaning.{meaning}
@@ -25,8 +24,8 @@ use Rattle.script.proofs.Follows.{script, decodes, run_length}
 pub calls_run : {steps : List Step} {s e : ProfileSerializer} → Calls steps s e → e ≡ run s steps
 unfolding step_of
 calls_run none = refl
-calls_run (pushed {steps = steps} r q c) = calls_run c ∙ ap (λ (x : Stepped). run x.serializer steps) q
-calls_run (finalized {steps = steps} words r q c) = calls_run c ∙ ap (λ (x : Finalized). run x.serializer steps) q
+calls_run (pushed {steps = steps} r q c) = calls_run c ∙ ap (λ (x : Stepped Unit). run x.serializer steps) q
+calls_run (finalized {steps = steps} words r q c) = calls_run c ∙ ap (λ (x : Stepped ℕ). run x.serializer steps) q
 
 pub fed : (mode : ℕ) (steps : List Step) (image : List ℕ) → mode ≤ 3 → 91 ≤ length image
     → (feed_judged_of (run (fresh mode) steps) image ≡ Ok tt) × (fed_of (run (fresh mode) steps) image ≡ meaning mode steps image)

@@ -36,7 +36,7 @@ pub fn step_of(kind: u32, mask: u32, presence: u32, word: i32, phase: u32, acr: 
     })
 }
 
-fn finalize(serializer: ProfileSerializer, words: usize) -> Stepped
+fn finalize(serializer: ProfileSerializer, words: usize) -> Stepped<()>
     ensures answer { result.answer ≡ answer_at serializer.mode serializer.length (Step.Finalize words) }
     ensures serializer { result.serializer ≡ step_of serializer (Step.Finalize words) }
 {
@@ -52,7 +52,7 @@ fn finalize(serializer: ProfileSerializer, words: usize) -> Stepped
 
 /// One step, on the code of `profile`.
 #[tactic(auto, unfolding(crate::specs::Meaning::answer_at, crate::specs::Runs::step_of, profile::specs::Serializer::push_of))]
-pub fn step_by(serializer: ProfileSerializer, step: Step) -> Stepped
+pub fn step_by(serializer: ProfileSerializer, step: Step) -> Stepped<()>
     ensures answer { result.answer ≡ answer_at serializer.mode serializer.length step }
     ensures serializer { result.serializer ≡ step_of serializer step }
 {

@@ -1,7 +1,7 @@
 use Rattle.std.proofs.Common.{◌≡◌, ℕ, length, take, ap, ◌∙◌, arith, rules}
 use Prim.Native.Nat.{min}
 use lib.ListN.{replicate, length-take}
-use Rattle.profile.specs.declared.Finalized.{Finalized}
+use Rattle.profile.specs.declared.Stepped.{Stepped}
 use Rattle.rules.specs.Rules.{answer_of}
 use Rattle.script.specs.Meaning.{answer_at}
 use Rattle.script.specs.Runs.{step_of}
@@ -18,11 +18,11 @@ returns-clause-answer c =
     let a = c.args in
     let l = lent c.min-lent.result a.words c.min-lent.ensures in
     let m : c.map.result ≡ answer_of c.finalize-finalized.result.answer = search rules in
-    m ∙ ap (λ (r : Finalized). answer_of r.answer) c.finalize-finalized.ensures.finalized ∙ rw (l, enough_words)
+    m ∙ ap (λ (r : Stepped ℕ). answer_of r.answer) c.finalize-finalized.ensures.finalized ∙ rw (l, enough_words)
 
 pub returns-clause-serializer : goal.returns-clause-serializer
 unfolding step_of
 returns-clause-serializer c =
     let a = c.args in
     let l = lent c.min-lent.result a.words c.min-lent.ensures in
-    ap (λ (r : Finalized). r.serializer) c.finalize-finalized.ensures.finalized ∙ rw (l, enough_finalized)
+    ap (λ (r : Stepped ℕ). r.serializer) c.finalize-finalized.ensures.finalized ∙ rw (l, enough_finalized)
