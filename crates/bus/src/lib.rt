@@ -1,8 +1,7 @@
 // Bus sequences: their actions and replies, what every sequence has, and a host's loop that plays one.
 #![tactic(auto)]
 
-ghost use Rattle.std.specs.Prelude.{◌≡◌, ℕ, cond, Some, Ok, Err, List};
-ghost use Rattle.registers.specs.declared.refusal.Refusal.TheVariants as refused;
+ghost use Rattle.std.specs.Prelude.{◌≡◌, ℕ, List};
 ghost use Rattle.bus.specs.Bus.{fault_of};
 ghost use Rattle.bus.specs.declared.Action.{Action};
 ghost use Rattle.bus.specs.declared.Reply.{Reply};
@@ -34,26 +33,17 @@ pub struct Reply {
     pub value: u32,
 }
 
-fn failure(failed: bool, refusal: Refusal) -> Result<(), Refusal>
-    ensures { result ≡ cond failed (Err refusal) (Ok tt) }
-{
-    if failed { Err(refusal) } else { Ok(()) }
-}
-
 // What is wrong with a reply to an action: Interface or Pin, then Word; Over where there is no action.
 pub fn fault(action: Option<Action>, reply: Reply) -> Result<(), Refusal>
     ensures { result ≡ fault_of action reply }
 {
     match action {
         None => Err(Refusal::Over),
-        Some(Action::Pin(_, _)) => failure(reply.failed, Refusal::Pin),
         Some(Action::Delay(_)) => Ok(()),
-        Some(Action::Configure(_)) => failure(reply.failed, Refusal::Interface),
-        Some(Action::Write(_, _)) => failure(reply.failed, Refusal::Interface),
-        Some(Action::Read(address)) => {
-            failure(reply.failed, Refusal::Interface)?;
-            failure(!address::holds(address, reply.value), Refusal::Word)
-        }
+        Some(Action::Pin(_, _)) if reply.failed => Err(Refusal::Pin),
+        Some(_) if reply.failed => Err(Refusal::Interface),
+        Some(Action::Read(address)) if !address::holds(address, reply.value) => Err(Refusal::Word),
+        Some(_) => Ok(()),
     }
 }
 
@@ -93,10 +83,7 @@ pub trait Sequence {
         let Some(action) = self.action() else {
             return Err(Refusal::Over);
         };
-        let answer = match fault(Some(action), reply) {
-            Ok(()) => self.judge(reply.value),
-            Err(refusal) => Err(refusal),
-        };
+        let answer = fault(Some(action), reply).and_then(|()| self.judge(reply.value));
         match &answer {
             Ok(None) => self.onward(reply.value),
             _ => self.end(),
