@@ -4,6 +4,7 @@ use Rattle.binary32.specs.Floats.{whole}
 use Rattle.convert.specs.declared.Setting.{Setting}
 use Rattle.convert.specs.declared.clock.Clock.{Clock}
 use Rattle.rules.specs.declared.Push.{Push}
+use Rattle.rules.specs.Rules.{given_by}
 
 -- beside a refusal
 abbrev pub no_setting : Setting
@@ -11,10 +12,6 @@ no_setting = record { word = 0; achieved = whole 0 }
 
 abbrev pub no_clock : Clock
 no_clock = record { system = whole 0; vco = 0; ratio = whole 0 }
-
--- a field is given where the last bit is 1
-abbrev pub given_by : {A : Type 0} → ℕ → A → Option A
-given_by bits x = cond (eqb (bits % 2) 1) (Some x) None
 
 -- bits 0, 1, 2 of presence: word, phase, ACR. A presence above 7 stands for a phase that is too wide, so that the push is refused in its own order: Mode, Mask, Word
 abbrev pub push_at : ℕ → ℕ → ℤ → ℕ → ℕ → Push

@@ -47,7 +47,9 @@ pub fn fault(action: Option<Action>, reply: Reply) -> Result<(), Refusal>
     }
 }
 
-// A record that hands out one action, takes one reply, and goes on.
+/// A record that hands out one action, takes one reply, and goes on. A host calls `action` and `reply`, or lets `run` call them; `judge`, `onward`
+/// and `end` are what each kind adds, for `reply` alone.
+// A kind's step is a number in its record and its table is read by it, as its plan is: a record may be made by hand, with any step.
 pub trait Sequence {
     // What it hands back at its end.
     type Output;

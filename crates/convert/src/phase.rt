@@ -24,7 +24,7 @@ pub fn set(phase: f32) -> Setting
     }
 }
 
-// The phase of a CPOW0 that was read.
+// The phase of a CPOW0 that was read. It differs from an amplitude's `read` in its register and its meaning, that is in all it says.
 pub fn read(word: u32) -> Result<f32, Refusal>
     ensures { result ≡ reading_of word }
 {

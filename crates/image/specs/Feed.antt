@@ -2,18 +2,14 @@
 use Rattle.std.specs.Prelude.{ℕ, cond, List, ltb, length, Result, Ok, Err}
 use Rattle.registers.specs.declared.refusal.Refusal.{Refusal}
 use Rattle.registers.specs.declared.refusal.Refusal.TheVariants.{Room}
+use Rattle.registers.specs.Refusals.{answer_of}
 use Rattle.registers.specs.Registers.{Write}
 use Rattle.stream.specs.Decoder.{decode_of}
 use Rattle.image.specs.Image.{apply}
 
--- whether it is refused
-abbrev pub judged : Result (List Write) Refusal → Result (Unit {0}) Refusal
-judged (Ok ws) = Ok tt
-judged (Err e) = Err e
-
 -- fewer than 91 words: Room, judged before the stream; then the decoder's refusal
-abbrev pub feed_judged : List ℕ → List ℕ → Result (Unit {0}) Refusal
-feed_judged bytes image = cond (ltb (length image) 91) (Err Room) (judged (decode_of bytes))
+abbrev pub feed_judged : List ℕ → List ℕ → Result Unit Refusal
+feed_judged bytes image = cond (ltb (length image) 91) (Err Room) (answer_of (decode_of bytes))
 
 -- what decoded writes make of an image
 abbrev pub applied : Result (List Write) Refusal → List ℕ → List ℕ

@@ -41,7 +41,7 @@ fn write(image: &mut [u32], next: Write)
     }
 }
 
-// Plays a stream's writes.
+// Plays a stream's writes. Bytes and image are the caller's, and lent apart.
 #[tactic(auto, using(stream::proofs::Steps::item_address))]
 fn play(bytes: &[u8], image: &mut [u32])
     requires { 91 ≤ length image.old }

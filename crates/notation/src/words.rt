@@ -5,7 +5,7 @@ ghost use Rattle.notation.specs.Lines.{with_place, value_of};
 
 use crate::{Fault, digits};
 
-/// A part of a line, from one place up to another.
+/// A part of a line, from one place up to another: `read`'s fault has places, so that who reads it can quote the line.
 #[derive(Clone, Copy, Debug, PartialEq, Eq)]
 pub struct Span {
     pub start: usize,
@@ -40,7 +40,7 @@ fn stops(inside: bool, b: u8) -> bool
     }
 }
 
-// How far behind `at` a search stops, where it does.
+// How far behind `at` a search stops, where it does. A place and no part of the line: places are what a fault tells.
 fn stop(line: &[u8], at: usize, inside: bool) -> Option<usize>
     ensures place { result ≡ position (stops inside) (drop at line.now) }
     ensures within { IfSome result (λ n. at + n < length line.now) }

@@ -3,6 +3,7 @@ use Rattle.std.specs.Prelude.{ℕ, zero, suc, ◌+◌, ◌*◌, cond, List, [], 
 use Rattle.std.specs.declared.result.Result.{Result}
 use Rattle.registers.specs.declared.refusal.Refusal.{Refusal}
 use Rattle.registers.specs.declared.refusal.Refusal.TheVariants.{Mode, Room}
+use Rattle.registers.specs.Refusals.{answer_of}
 use Rattle.registers.specs.Registers.{Write}
 use Rattle.registers.specs.Bytes.{laid}
 use Rattle.stream.specs.Streams.{encode}
@@ -10,7 +11,7 @@ use Rattle.image.specs.Feed.{feed_judged, feed_of}
 use Rattle.profile.specs.declared.ProfileSerializer.{ProfileSerializer}
 use Rattle.profile.specs.declared.Stepped.{Stepped}
 use Rattle.rules.specs.declared.Push.{Push}
-use Rattle.rules.specs.Rules.{push_size, padding, quarter, push_judged, finalize_judged, answer_of, push_writes, padding_writes}
+use Rattle.rules.specs.Rules.{push_size, padding, quarter, push_judged, finalize_judged, push_writes, padding_writes}
 
 -- a new one: length 0 and bytes 0
 abbrev pub fresh : ℕ → ProfileSerializer

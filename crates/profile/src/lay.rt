@@ -1,4 +1,4 @@
-// Writes laid behind the profile's bytes.
+// Writes laid behind the profile's bytes: bytes and place stay apart, as `lent` has them from C.
 ghost use Rattle.std.specs.Prelude.{◌≡◌, ◌+◌, ◌<◌, ◌≤◌, length};
 ghost use Rattle.stream.specs.Streams.{encode};
 ghost use Rattle.rules.specs.Rules.{push_size, padding, given, push_writes, padding_writes};

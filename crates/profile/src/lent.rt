@@ -1,6 +1,7 @@
-// The work, over a length and bytes that are lent: nothing is copied.
+// The work, over a length and bytes that are lent, as C lends them: nothing is copied. Methods and functions by value are thin layers over it.
 ghost use Rattle.std.specs.Prelude.{◌≡◌, length, OnOk, OnErr};
-ghost use Rattle.rules.specs.Rules.{push_judged, finalize_judged, answer_of};
+ghost use Rattle.rules.specs.Rules.{push_judged, finalize_judged};
+ghost use Rattle.registers.specs.Refusals.{answer_of};
 ghost use Rattle.profile.specs.Serializer.{pushed, padded, handed};
 ghost use Rattle.profile.specs.Lent.{held};
 

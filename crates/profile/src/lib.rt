@@ -2,7 +2,8 @@
 #![tactic(auto)]
 
 ghost use Rattle.std.specs.Prelude.{◌≡◌, length, OnOk, OnErr};
-ghost use Rattle.rules.specs.Rules.{push_judged, finalize_judged, answer_of};
+ghost use Rattle.rules.specs.Rules.{push_judged, finalize_judged};
+ghost use Rattle.registers.specs.Refusals.{answer_of};
 ghost use Rattle.profile.specs.Serializer.{new_of, pushed, push_of, padded, handed, finalize_of, feed_judged_of, fed_of};
 
 use registers::refusal::Refusal;
@@ -12,7 +13,7 @@ mod lay;
 pub mod lent;
 mod words;
 
-/// A profile so far: the bytes below the length are meant.
+/// A profile so far: the bytes below the length are meant. An array and a length: the driver has no heap, and a record made by hand may have any length.
 #[derive(Clone, Copy, Debug, PartialEq, Eq)]
 pub struct ProfileSerializer {
     pub mode: u32,
@@ -63,7 +64,7 @@ impl ProfileSerializer {
     }
 }
 
-/// A push by value: the method is a thin layer over the same work, which `lent` does.
+/// A push by value, a form that the project promises beside the method: the work is `lent`'s in both.
 #[tactic(auto, unfolding(crate::specs::Serializer::push_of))]
 pub fn push(serializer: ProfileSerializer, push: Push) -> Stepped<()>
     ensures { result ≡ push_of serializer push }
@@ -76,7 +77,7 @@ pub fn push(serializer: ProfileSerializer, push: Push) -> Stepped<()>
     }
 }
 
-/// Finalising by value.
+/// Finalising by value likewise.
 #[tactic(auto, unfolding(crate::specs::Serializer::finalized_of))]
 pub fn finalize(serializer: ProfileSerializer, words: &mut [u32]) -> Stepped<usize>
     ensures finalized { result ≡ finalize_of serializer (length words.old) }

@@ -24,6 +24,11 @@ abbrev pub number_of : {T : Type 0} → Result T Refusal → ℕ
 number_of (Ok value) = 0
 number_of (Err refusal) = number refusal
 
+-- an answer alone, without what it holds
+abbrev pub answer_of : {T : Type 0} → Result T Refusal → Result Unit Refusal
+answer_of (Ok value) = Ok tt
+answer_of (Err refusal) = Err refusal
+
 -- a refusal's name
 abbrev pub name_of : Refusal → List ℕ
 name_of Interface = codes "Interface"

@@ -1,4 +1,4 @@
-// Values in bytes, high byte first.
+// Values in bytes, high byte first. `read` and `write` answer any place and any width, so that these stay numbers beside the bytes.
 ghost use Rattle.std.specs.Prelude.{◌≡◌, ◌+◌, ◌≤◌, length, OnOk, OnErr};
 ghost use Rattle.registers.specs.Bytes.{big_endian, value_of, laid, read_of, write_of};
 

@@ -15,6 +15,10 @@ bits_of (negsuc n) = 4294967295 - n % 4294967296
 abbrev pub signed_of : ℕ → ℤ
 signed_of n = cond (ltb n 2147483648) (pos n) (negsuc (4294967295 - n))
 
+-- a field is given where the last bit is one
+abbrev pub given_by : {A : Type 0} → ℕ → A → Option A
+given_by bits x = cond (eqb (bits % 2) 1) (Some x) None
+
 abbrev pub word_of : Option ℤ → Option ℕ
 word_of (Some z) = Some (bits_of z)
 word_of None = None
@@ -70,11 +74,6 @@ finalize_judged mode n words =
     cond (ltb 3 mode) (Err Mode)
     (cond (full 32 n || ltb words (quarter n)) (Err Room)
     (Ok (quarter n)))
-
--- an answer without what it carries
-abbrev pub answer_of : {A : Type 0} → Result A Refusal → Result Unit Refusal
-answer_of (Ok x) = Ok tt
-answer_of (Err e) = Err e
 
 -- ---- register writes
 

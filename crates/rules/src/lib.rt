@@ -35,7 +35,7 @@ impl Push {
     }
 }
 
-// A tuning word's bits, in two's complement.
+// A tuning word's bits, in two's complement. `bits` and `signed` are std's casts under the names that programs and promises know.
 pub fn bits(z: i32) -> u32
     ensures { result ≡ bits_of z }
 {

@@ -26,7 +26,8 @@ use Rattle.image.specs.Image.{selected, select, apply}
 use Rattle.image.specs.Feed.{feed_of}
 use Rattle.image.proofs.Images.{length_apply, apply_append, selected_give, selected_select}
 use Rattle.profile.specs.declared.ProfileSerializer.{ProfileSerializer}
-use Rattle.rules.specs.Rules.{word_of, push_size, quarter, full, above, push_judged, finalize_judged, answer_of, given, push_writes, padding_writes_by, padding_writes}
+use Rattle.registers.specs.Refusals.{answer_of}
+use Rattle.rules.specs.Rules.{word_of, push_size, quarter, full, above, push_judged, finalize_judged, given, push_writes, padding_writes_by, padding_writes}
 use Rattle.profile.specs.Serializer.{fresh, push_of, finalized_of, grown, stream_of}
 use Rattle.profile.specs.Lent.{held}
 use Rattle.rules.specs.Judged.{Held}

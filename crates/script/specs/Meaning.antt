@@ -2,9 +2,10 @@
 -- of `profile` it uses the rules and the steps' types, of `image` the registers. Definitions only.
 use Rattle.std.specs.Prelude.{ℕ, zero, suc, ◌+◌, ◌%◌, Bool, false, ◌||◌, not, cond, List, [], ◌∷◌, ◌≡◌, T, eqb, Option, Some, None, Result, Ok, is_ok}
 use Rattle.registers.specs.declared.refusal.Refusal.{Refusal}
+use Rattle.registers.specs.Refusals.{answer_of}
 use Rattle.registers.specs.Registers.{CSR, CFTW0, CPOW0, ACR, LSRR}
 use Rattle.image.specs.Image.{give, selected, select, reaches}
-use Rattle.rules.specs.Rules.{word_of, push_size, padding, push_judged, finalize_judged, answer_of}
+use Rattle.rules.specs.Rules.{word_of, push_size, padding, push_judged, finalize_judged}
 use Rattle.script.specs.declared.Step.{Step}
 use Rattle.script.specs.declared.Step.TheVariants.{Push, Finalize}
 

@@ -2,12 +2,9 @@
 use Rattle.std.specs.Prelude.{ℕ, ◌/◌, ◌%◌, ◌||◌, cond, List, ltb, eqb, ℤ, length, Option, Some, None, Result, Ok, Err}
 use Rattle.registers.specs.declared.refusal.Refusal.{Refusal}
 use Rattle.registers.specs.declared.refusal.Refusal.TheVariants.{Mode, Room}
+use Rattle.rules.specs.Rules.{given_by}
 use Rattle.script.specs.declared.Step.{Step}
 use Rattle.script.specs.declared.Step.TheVariants.{Push, Finalize}
-
--- a field is given where its bit is one
-abbrev pub given_by : {A : Type 0} → ℕ → A → Option A
-given_by bit x = cond (eqb (bit % 2) 1) (Some x) None
 
 -- kind 0 is a push, whose word, phase and ACR are given by bits 0, 1 and 2 of presence; any other kind is a finalisation, into a buffer of `mask` words
 unfoldable pub step_at : ℕ → ℕ → ℕ → ℤ → ℕ → ℕ → Step

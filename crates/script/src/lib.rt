@@ -18,7 +18,7 @@ pub enum Step {
 }
 
 /// A step from numbers: kind 0 is a push, any other a finalisation into a buffer of `mask` words.
-// `replay` reads its steps as numbers, and any number makes a step.
+// Kind and presence stay numbers: `step_of` may not change, and makes a step of any; `replay` reads its steps so.
 #[tactic(auto, unfolding(crate::specs::Play::step_at))]
 pub fn step_of(kind: u32, mask: u32, presence: u32, word: i32, phase: u32, acr: u32) -> Step
     ensures { result ≡ step_at kind mask presence word phase acr }
@@ -40,7 +40,7 @@ fn finalize(serializer: ProfileSerializer, words: usize) -> Stepped<()>
     ensures answer { result.answer ≡ answer_at serializer.mode serializer.length (Step.Finalize words) }
     ensures serializer { result.serializer ≡ step_of serializer (Step.Finalize words) }
 {
-    // A profile takes at most eight words.
+    // A profile takes at most eight words; a buffer of our own, since the driver has no heap.
     let mut buffer = [0u32; 8];
     let lent = words.min(8);
     let finalized = profile::finalize(serializer, &mut buffer[..lent]);

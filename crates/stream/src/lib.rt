@@ -84,7 +84,7 @@ pub fn scan(bytes: &[u8]) -> Result<usize, Refusal>
     Ok(seen)
 }
 
-// Writes the addresses and the values to the fronts of two buffers.
+// Writes the addresses and the values to the fronts of two buffers: two, as `decode` gets them.
 #[tactic(auto, using(registers::proofs::Laid::laid_nil, registers::proofs::Laid::laid_cons))]
 fn fill(bytes: &[u8], addresses: &mut [u32], values: &mut [u32])
     requires addresses { length (items_of bytes.now) ≤ length addresses.old }
@@ -132,7 +132,7 @@ fn size(write: Write) -> Result<usize, Refusal>
     Ok(1 + address::width(write.address))
 }
 
-// Lays one write over the bytes from a place on: the place behind it.
+// Lays one write over the bytes from a place on: the place behind it. The place is a number, since `lay` answers any.
 #[tactic(auto, using(crate::proofs::Lays::lay_refused, crate::proofs::Lays::lay_fits, crate::proofs::Lays::lay_full, crate::proofs::Lays::stored))]
 pub fn lay(bytes: &mut [u8], at: usize, write: Write) -> Result<usize, Refusal>
     ensures judged { result ≡ lay_judged (length bytes.old) at write }
@@ -148,7 +148,7 @@ pub fn lay(bytes: &mut [u8], at: usize, write: Write) -> Result<usize, Refusal>
     Ok(at + size)
 }
 
-// How many bytes the writes take, or the refusal of the first bad one.
+// How many bytes the writes take, or the refusal of the first bad one. By places: of two lists side by side (`zip`) a proof would need both iterators.
 #[tactic(auto, using(crate::proofs::Rest::rest_zero, crate::proofs::Rest::more_none, crate::proofs::Rest::rest_more, crate::proofs::Rest::rest_none))]
 fn measure(addresses: &[u32], values: &[u32], count: usize) -> Result<usize, Refusal>
     requires addresses { count ≤ length addresses.now }
@@ -165,7 +165,7 @@ fn measure(addresses: &[u32], values: &[u32], count: usize) -> Result<usize, Ref
     Ok(bytes)
 }
 
-// Lays the writes over the front of the bytes.
+// Lays the writes over the front of the bytes, by places likewise.
 fn lay_each(addresses: &[u32], values: &[u32], count: usize, bytes: &mut [u8])
     requires addresses { count ≤ length addresses.now }
     requires values { count ≤ length values.now }

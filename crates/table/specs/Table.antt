@@ -1,6 +1,7 @@
 -- Document 01, "Numbered examples": the rows marked T as one table. Mode 3 where not said. Definitions only.
 use Rattle.std.specs.Prelude.{ℕ, List, [], ◌∷◌, ◌≡◌, pos, negsuc, ℤ, Float, Option, Some, None, Result, Ok, Err}
 use Rattle.std.specs.Float.{binary32}
+use Rattle.std.specs.Result.{result_unwrap_or}
 use Rattle.std.specs.Float.Ieee.{of_bits}
 use Rattle.registers.specs.declared.refusal.Refusal.{Refusal}
 use Rattle.registers.specs.declared.refusal.Refusal.TheVariants.{Bounds, Room}
@@ -15,7 +16,7 @@ use Rattle.convert.specs.Clock.{clock_of}
 use Rattle.profile.specs.declared.ProfileSerializer.{ProfileSerializer}
 use Rattle.rules.specs.declared.Push.{Push}
 use Rattle.rules.specs.Rules.{quarter}
-use Rattle.profile.specs.Serializer.{new_of, push_of, finalized_of, stream_of, words_of}
+use Rattle.profile.specs.Serializer.{fresh, new_of, push_of, finalized_of, stream_of, words_of}
 
 -- what is asked: a profile's bytes or words once it is finalised, or each push's number and the length after it; a phase's word; an amplitude's ACR;
 -- the FR1 of a clock, where FR1 was a number
@@ -40,10 +41,9 @@ abbrev steps : ProfileSerializer → List Push → List ℕ
 steps s [] = []
 steps s (p ∷ ps) = number_of (push_of s p).answer ∷ (pushed s p).length ∷ steps (pushed s p) ps
 
--- what a new serializer gives, or its refusal's number
-abbrev on : Result ProfileSerializer Refusal → (ProfileSerializer → List ℕ) → List ℕ
-on (Ok s) f = f s
-on (Err e) f = number e ∷ []
+-- a new serializer; of a mode above 3, which no row has, an empty one of mode 0
+abbrev new : ℕ → ProfileSerializer
+new mode = result_unwrap_or (new_of mode) (fresh 0)
 
 -- an answer's number and its value, zero beside a refusal
 abbrev said : Result ℕ Refusal → List ℕ
@@ -55,13 +55,13 @@ word (Ok s) = Ok s.word
 word (Err e) = Err e
 
 abbrev in_fr1 : ℕ → ℕ → Result Clock Refusal → Result ℕ Refusal
-in_fr1 was multiplier (Ok c) = with_clock was multiplier c.vco
+in_fr1 was multiplier (Ok c) = Ok (result_unwrap_or (with_clock was multiplier c.vco) 0)
 in_fr1 was multiplier (Err e) = Err e
 
 abbrev pub given : Asked → List ℕ
-given (bytes mode ps) = on (new_of mode) (λ s. stream_of (finalized_of (all s ps) 8))
-given (words mode ps) = on (new_of mode) (λ s. words_of (quarter (all s ps).length) (finalized_of (all s ps) 8).bytes)
-given (lengths mode ps) = on (new_of mode) (λ s. steps s ps)
+given (bytes mode ps) = stream_of (finalized_of (all (new mode) ps) 8)
+given (words mode ps) = let s = all (new mode) ps in words_of (quarter s.length) (finalized_of s 8).bytes
+given (lengths mode ps) = steps (new mode) ps
 given (phase_word x) = said (Ok (phase.setting_of x).word)
 given (acr x) = said (word (amplitude.setting_of x))
 given (fr1 reference multiplier was) = said (in_fr1 was multiplier (clock_of reference multiplier))

@@ -2,7 +2,7 @@ use Rattle.std.proofs.Common.{◌≡◌, ℕ, length, take, ap, ◌∙◌, arith
 use Prim.Native.Nat.{min}
 use lib.ListN.{replicate, length-take}
 use Rattle.profile.specs.declared.Stepped.{Stepped}
-use Rattle.rules.specs.Rules.{answer_of}
+use Rattle.registers.specs.Refusals.{answer_of}
 use Rattle.script.specs.Meaning.{answer_at}
 use Rattle.script.specs.Runs.{step_of}
 use Rattle.script.proofs.Words.{enough_words, enough_finalized}
