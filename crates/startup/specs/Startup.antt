@@ -37,7 +37,7 @@ clock s = clock_of s.reference s.multiplier
 unfoldable pub legal : Startup → Bool
 legal s = leb s.mode 3 && holds FR1 s.fr1 && (ltb s.step 12 || is_ok (clock s))
 
--- a refused clock has none
+-- a refused clock has none: 0, which is written nowhere
 abbrev pub vco_of : Result Clock Refusal → ℕ
 vco_of (Ok c) = c.vco
 vco_of (Err refusal) = 0

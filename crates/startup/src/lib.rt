@@ -61,15 +61,13 @@ impl Startup {
         csr::of(self.mode, 15).unwrap_or(0)
     }
 
-    // The FR1 to be written: multiplier and vco_high, and every other bit as it was read.
+    // The FR1 to be written: multiplier and vco_high, and every other bit as it was read. Where the clock is refused it is
+    // written nowhere: `legal` shuts that out past the CSR read.
     #[tactic(auto, unfolding(crate::specs::Startup::word))]
     fn word(self) -> u32
         ensures { result ≡ word self self.fr1 }
     {
-        let vco = match self.clock() {
-            Ok(clock) => clock.vco,
-            Err(_) => 0,
-        };
+        let vco = self.clock().map_or(0, |clock| clock.vco);
         fr1::with_clock(self.fr1, self.multiplier, vco).unwrap_or(0)
     }
 }
