@@ -2,7 +2,7 @@
 --     length_big_endian   as many bytes as the width
 --     value_big_endian    reading what was written gives the value
 --     big_endian_value    writing what was read gives the bytes
---     read_short, read_value   a reading at a register's width: Short exactly where the bytes end before it
+--     read_short, read_value   what a reading at a register's width tells
 --     write_fits   a value that fits its width is refused by Room alone
 use mathlib.Core.Path.{◌≡◌, refl, sym, ◌∙◌}
 use mathlib.Core.List.{List, [], ◌∷◌, ◌++◌, append-nil, append_assoc}
@@ -10,14 +10,16 @@ use Prim.Native.Nat.{ℕ, zero, suc, ◌+◌, ◌-◌, ◌*◌, ◌/◌, ◌%◌
 use native.Mathlib.Nat.{add-zero, zero-add, pow-suc}
 use native.Mathlib.Numerals.{add-one}
 use native.Mathlib.Omega.{arith}
-use borrow.Author.Tests.{lt-leb, lt-ltb, le-ltb}
-use mathlib.Core.Bool.{cond}
+use borrow.Author.Tests.{lt-leb, le-ltb, ltb-true, ltb-false}
+use mathlib.Core.Bool.{Bool, true, false, cond}
+use lib.Dec.{ltb}
 use lib.Dec.{ltb}
 use lib.Arith.{digits_div, digits_mod, digits_lt}
 use lib.ListN.{length, take, drop, set, length-append, length-set}
 use Rattle.registers.proofs.Laid.{laid_nil, laid_sets, sets_snoc}
-use Rattle.std.proofs.Common.{get_or, drop-cons, Ok, Err}
+use Rattle.std.proofs.Common.{get_or, drop-cons, Result, Ok, Err}
 use Rattle.std.proofs.lemmas.List.{drop_all}
+use Rattle.registers.specs.declared.refusal.Refusal.{Refusal}
 use Rattle.registers.specs.declared.refusal.Refusal.TheVariants.{Room, Short}
 use Rattle.registers.specs.Bytes.{big_endian, value_from, value_of, laid, read_of, write_of}
 
@@ -57,11 +59,22 @@ big_endian_value bs p = rw zero-add at (behind 0 0 bs p)
 -- ---- reading and writing at a width of at most 4
 
 module _ (bs : List ℕ) (at w : ℕ) (h : w ≤ 4) where
-  pub read_short : length bs < at + w → read_of bs at w ≡ Err Short
-  read_short k = rw (le-ltb 4 w h, lt-ltb (length bs) (at + w) k)
+  reading : read_of bs at w ≡ cond (ltb (length bs) (at + w)) (Err Short) (Ok (value_of (take w (drop at bs))))
+  reading = rw (le-ltb 4 w h)
 
-  pub read_value : at + w ≤ length bs → read_of bs at w ≡ Ok (value_of (take w (drop at bs)))
-  read_value k = rw (le-ltb 4 w h, le-ltb (length bs) (at + w) k)
+  pub read_short : (e : Refusal) → read_of bs at w ≡ Err e → (length bs < at + w) × (e ≡ Short)
+  read_short e bad = go (ltb (length bs) (at + w)) refl (sym reading ∙ bad)
+    where
+      go : (b : Bool) → ltb (length bs) (at + w) ≡ b → ◌≡◌ {A = Result ℕ Refusal} (cond b (Err Short) (Ok (value_of (take w (drop at bs))))) (Err e) → (length bs < at + w) × (e ≡ Short)
+      go true k n = (ltb-true (length bs) (at + w) k, cc)
+      go false k n = absurd (cc)
+
+  pub read_value : (v : ℕ) → read_of bs at w ≡ Ok v → (at + w ≤ length bs) × (v ≡ value_of (take w (drop at bs)))
+  read_value v good = go (ltb (length bs) (at + w)) refl (sym reading ∙ good)
+    where
+      go : (b : Bool) → ltb (length bs) (at + w) ≡ b → ◌≡◌ {A = Result ℕ Refusal} (cond b (Err Short) (Ok (value_of (take w (drop at bs))))) (Ok v) → (at + w ≤ length bs) × (v ≡ value_of (take w (drop at bs)))
+      go true k n = absurd (cc)
+      go false k n = (ltb-false (length bs) (at + w) k, cc)
 
 pub write_fits : (size at w v : ℕ) → w ≤ 4 → v < 256 ^ w → write_of size at w v ≡ cond (ltb size (at + w)) (Err Room) (Ok tt)
 write_fits size at w v h k = rw (le-ltb 4 w h, lt-leb (256 ^ w) v k)
