@@ -40,27 +40,6 @@ fn stops(inside: bool, b: u8) -> bool
     }
 }
 
-// How far behind `at` a search stops, where it does. A place and no part of the line: places are what a fault tells.
-fn stop(line: &[u8], at: usize, inside: bool) -> Option<usize>
-    ensures place { result ≡ position (stops inside) (drop at line.now) }
-    ensures within { IfSome result (λ n. at + n < length line.now) }
-{
-    line.iter().skip(at).position(|b| stops(inside, *b))
-}
-
-// The first place from `at` on where a search stops, or the line's end.
-#[tactic(auto, unfolding(crate::specs::Words::seek_of))]
-fn seek(line: &[u8], at: usize, inside: bool) -> usize
-    ensures place { result ≡ seek_of inside line.now at }
-    ensures within { result ≤ length line.now }
-    ensures forward { at ≤ length line.now → at ≤ result }
-{
-    match stop(line, at, inside) {
-        Some(n) => at + n,
-        None => line.len(),
-    }
-}
-
 // The words of a line, read one after another from a place on.
 #[derive(Drop)]
 pub struct Words<'a> {
@@ -76,6 +55,31 @@ impl<'a> Words<'a> {
         Words { line, at: 0 }
     }
 
+    // How far ahead a search stops, where it does.
+    fn stop(&self, inside: bool) -> Option<usize>
+        ensures place { result ≡ position (stops inside) (drop self.now.at self.now.line.now) }
+        ensures within { IfSome result (λ n. self.now.at + n < length self.now.line.now) }
+    {
+        self.line
+            .iter()
+            .skip(self.at)
+            .position(|b| stops(inside, *b))
+    }
+
+    // Goes to the first place from here on where a search stops, or to the line's end.
+    #[tactic(auto, unfolding(crate::specs::Words::seek_of))]
+    fn seek(&mut self, inside: bool)
+        ensures place { self.new.at ≡ seek_of inside self.old.line.now self.old.at }
+        ensures line { self.new.line.now ≡ self.old.line.now }
+        ensures within { self.new.at ≤ length self.old.line.now }
+        ensures forward { self.old.at ≤ length self.old.line.now → self.old.at ≤ self.new.at }
+    {
+        self.at = match self.stop(inside) {
+            Some(n) => self.at + n,
+            None => self.line.len(),
+        };
+    }
+
     // The next word: an empty part at the line's end or before a `#`.
     #[tactic(auto, unfolding(crate::specs::Words::next_of))]
     pub fn next(&mut self) -> Span
@@ -85,10 +89,13 @@ impl<'a> Words<'a> {
         ensures ordered { result.start ≤ result.end }
         ensures within { result.end ≤ length self.old.line.now }
     {
-        let start = seek(self.line, self.at, false);
-        let end = seek(self.line, start, true);
-        self.at = end;
-        Span { start, end }
+        self.seek(false);
+        let start = self.at;
+        self.seek(true);
+        Span {
+            start,
+            end: self.at,
+        }
     }
 
     // The next word as a number.

@@ -38,6 +38,7 @@ fn run<I: Read>(rt: &impl Print, err: &impl Print, input: &mut I, name: &[u8]) -
     let mut line = ArrayVec::new();
     let mut buffer = [0u8; 4096];
     let mut whole = true;
+    // a loop that reads has a bound, since a reader may never end
     for _ in 0..u64::MAX {
         let n = match input.read(&mut buffer) {
             Ok(n) => n,
@@ -83,6 +84,7 @@ fn played(rt: &HostRuntime) -> io::Result<bool> {
     let mut path = [0u8; 4096];
     let mut some = false;
     let mut all = true;
+    // by their places, since std's list of them takes text alone
     for i in 1..usize::MAX {
         let path = match rt.arg(i, &mut path) {
             Ok(n) => &path[..n],

@@ -137,7 +137,7 @@ impl Script {
         Ok(())
     }
 
-    // A line that is blank or a comment: the first is not shown.
+    // A blank line or a comment; an empty line is not shown.
     fn comment(&self, rt: &impl Print, line: &[u8]) -> io::Result<()> {
         match line {
             [] | [b'\r', ..] => Ok(()),

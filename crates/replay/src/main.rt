@@ -18,11 +18,15 @@ struct Count {
     differ: u32,
 }
 
-// Whether the port gives what a line says.
+// Whether the port gives what a line says. Its first number is its kind.
 fn same(mut numbers: Numbers) -> bool {
     match numbers.next() {
-        5 => profiles::same(numbers),
-        kind => sequences::same(kind, numbers),
+        1 => sequences::started(numbers),
+        2 => sequences::transferred(numbers),
+        3 => sequences::tested(numbers),
+        4 => sequences::read(numbers),
+        5 => profiles::played(numbers),
+        _ => false,
     }
 }
 
@@ -62,6 +66,7 @@ fn main(rt: HostRuntime) -> io::Result<()> {
         lines: 0,
         differ: 0,
     };
+    // it stops after so much input, as it always did
     for _ in 0..1000000 {
         let n = fill(&mut input, &mut buffer)?;
         if n == 0 {

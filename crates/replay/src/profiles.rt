@@ -13,7 +13,7 @@ fn push(numbers: &mut Numbers) -> Step {
     script::step_of(0, mask, presence, word, phase, acr)
 }
 
-pub fn same(mut numbers: Numbers) -> bool {
+pub fn played(mut numbers: Numbers) -> bool {
     let Ok(mut serializer) = ProfileSerializer::new(numbers.next()) else {
         return false;
     };

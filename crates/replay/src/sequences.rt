@@ -54,7 +54,7 @@ fn played(mut sequence: Kind, mut numbers: Numbers) -> bool {
     good && refusal::number(&answer) == number && number_of(answer) == result && turns == count
 }
 
-fn started(mut numbers: Numbers) -> bool {
+pub fn started(mut numbers: Numbers) -> bool {
     let mode = numbers.next();
     let reference = binary32::of_bits(numbers.next());
     let multiplier = numbers.next();
@@ -82,7 +82,7 @@ fn begun(
 }
 
 // On a clock's ratio. A refusal has handed out nothing.
-fn transferred(mut numbers: Numbers) -> bool {
+pub fn transferred(mut numbers: Numbers) -> bool {
     let mode = numbers.next();
     let reference = binary32::of_bits(numbers.next());
     let multiplier = numbers.next();
@@ -104,21 +104,15 @@ fn transferred(mut numbers: Numbers) -> bool {
     }
 }
 
-fn read(mut numbers: Numbers) -> bool {
+pub fn tested(numbers: Numbers) -> bool {
+    played(Kind::SelfTest(self_test::new()), numbers)
+}
+
+pub fn read(mut numbers: Numbers) -> bool {
     let sequence = if numbers.next() == address::CSR {
         register::csr()
     } else {
         register::fr1()
     };
     played(Kind::Register(sequence), numbers)
-}
-
-pub fn same(kind: u32, numbers: Numbers) -> bool {
-    match kind {
-        1 => started(numbers),
-        2 => transferred(numbers),
-        3 => played(Kind::SelfTest(self_test::new()), numbers),
-        4 => read(numbers),
-        _ => false,
-    }
 }

@@ -1,6 +1,6 @@
 // Channel settings and readings.
 use crate::chip::Fault;
-use crate::run::{faulted, play};
+use crate::run::{Trial, play};
 use crate::show::Float;
 use convert::Driver;
 use driver::channel::{self, Transfer};
@@ -48,74 +48,69 @@ fn begun(driver: Driver, mask: u32, wish: Wish) -> Result<Transfer, Refusal> {
     }
 }
 
-fn ask(
-    rt: &impl Print,
-    driver: Driver,
-    mask: u32,
-    wish: Wish,
-    fault: Option<Fault>,
-    only: Option<usize>,
-) -> io::Result<()> {
+fn ask(rt: &impl Print, driver: Driver, mask: u32, wish: Wish, trial: Trial) -> io::Result<()> {
     print!(rt; "\n{wish}")?;
     on(rt, driver, mask)?;
-    faulted(rt, fault)?;
+    trial.title(rt)?;
     match begun(driver, mask, wish) {
         Ok(transfer) => {
-            play(rt, Kind::Transfer(transfer), fault, only)?;
+            play(rt, Kind::Transfer(transfer), trial)?;
             Ok(())
         }
         Err(refusal) => print!(rt; ": refused, {refusal}"),
     }
 }
 
-fn six(
-    rt: &impl Print,
-    driver: Driver,
-    mask: u32,
-    fault: Option<Fault>,
-    only: Option<usize>,
-) -> io::Result<()> {
-    ask(rt, driver, mask, Wish::SetFrequency(100e6), fault, only)?;
-    ask(rt, driver, mask, Wish::SetPhase(0.75), fault, only)?;
-    ask(rt, driver, mask, Wish::SetAmplitude(0.5), fault, only)?;
-    ask(rt, driver, mask, Wish::GetFrequency, fault, only)?;
-    ask(rt, driver, mask, Wish::GetPhase, fault, only)?;
-    ask(rt, driver, mask, Wish::GetAmplitude, fault, only)
+fn six(rt: &impl Print, driver: Driver, mask: u32, trial: Trial) -> io::Result<()> {
+    ask(rt, driver, mask, Wish::SetFrequency(100e6), trial)?;
+    ask(rt, driver, mask, Wish::SetPhase(0.75), trial)?;
+    ask(rt, driver, mask, Wish::SetAmplitude(0.5), trial)?;
+    ask(rt, driver, mask, Wish::GetFrequency, trial)?;
+    ask(rt, driver, mask, Wish::GetPhase, trial)?;
+    ask(rt, driver, mask, Wish::GetAmplitude, trial)
 }
 
 /// Besides the six: full amplitude, which turns ACR's multiplier off.
 pub fn good(rt: &impl Print, driver: Driver) -> io::Result<()> {
-    let off = Some(Fault::Reads(2, 0x00_0200));
-    six(rt, driver, 5, None, None)?;
-    ask(rt, driver, 8, Wish::SetFrequency(1e6), None, None)?;
-    ask(rt, driver, 8, Wish::SetAmplitude(1.0), None, None)?;
-    ask(rt, driver, 8, Wish::GetAmplitude, off, None)
+    let all = Trial::new();
+    let off = all.with(Fault::Reads(2, 0x00_0200));
+    six(rt, driver, 5, all)?;
+    ask(rt, driver, 8, Wish::SetFrequency(1e6), all)?;
+    ask(rt, driver, 8, Wish::SetAmplitude(1.0), all)?;
+    ask(rt, driver, 8, Wish::GetAmplitude, off)
 }
 
 /// Each action fails; then values too wide for CPOW0 and for ACR.
 pub fn faulty(rt: &impl Print, driver: Driver) -> io::Result<()> {
-    let cpow0 = Some(Fault::Reads(2, 0x1_0000));
-    let acr = Some(Fault::Reads(2, 0x100_0000));
-    six(rt, driver, 1, Some(Fault::Fails(1)), Some(1))?;
-    six(rt, driver, 1, Some(Fault::Fails(2)), Some(2))?;
-    ask(rt, driver, 1, Wish::GetPhase, cpow0, Some(2))?;
-    ask(rt, driver, 1, Wish::GetAmplitude, acr, Some(2))
+    let cpow0 = Trial::new().with(Fault::Reads(2, 0x1_0000));
+    let acr = Trial::new().with(Fault::Reads(2, 0x100_0000));
+    six(rt, driver, 1, Trial::new().with(Fault::Fails(1)).showing(1))?;
+    six(rt, driver, 1, Trial::new().with(Fault::Fails(2)).showing(2))?;
+    ask(rt, driver, 1, Wish::GetPhase, cpow0.showing(2))?;
+    ask(rt, driver, 1, Wish::GetAmplitude, acr.showing(2))
 }
 
 // What is accepted shows its second action.
 fn judged(rt: &impl Print, mode: u32, mask: u32, ratio: f32, wish: Wish) -> io::Result<()> {
-    ask(rt, Driver { mode, ratio }, mask, wish, None, Some(2))
+    ask(
+        rt,
+        Driver { mode, ratio },
+        mask,
+        wish,
+        Trial::new().showing(2),
+    )
 }
 
 /// Mode, Mask and NotReady.
 pub fn refused(rt: &impl Print) -> io::Result<()> {
     let get = Wish::GetFrequency;
     let set = Wish::SetFrequency(100e6);
+    let second = Trial::new().showing(2);
     let ratio = 16.0;
-    six(rt, Driver { mode: 4, ratio }, 1, None, Some(2))?;
-    six(rt, Driver { mode: 3, ratio }, 16, None, Some(2))?;
+    six(rt, Driver { mode: 4, ratio }, 1, second)?;
+    six(rt, Driver { mode: 3, ratio }, 16, second)?;
     let ratio = f32::NAN;
-    six(rt, Driver { mode: 3, ratio }, 1, None, Some(2))?;
+    six(rt, Driver { mode: 3, ratio }, 1, second)?;
     judged(rt, 3, 1, 7.9999995, set)?;
     judged(rt, 3, 1, 7.9999995, get)?;
     judged(rt, 3, 1, 8.0, set)?;

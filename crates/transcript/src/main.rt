@@ -10,6 +10,7 @@ mod show;
 mod startups;
 
 use convert::Driver;
+use run::Trial;
 use std::io;
 
 // Start-ups, settings and the self test: what goes well. The driver that starting up makes.
@@ -19,7 +20,7 @@ fn well(rt: &impl Print) -> io::Result<Driver> {
     startups::others(rt)?;
     print!(rt; "\n\n2. Settings and readings: a value comes with the last reply")?;
     channels::good(rt, driver)?;
-    checks::registers(rt, None, None)?;
+    checks::registers(rt, Trial::new())?;
     print!(rt; "\n\n3. The self test: true comes with the last reply")?;
     checks::tests(rt)?;
     Ok(driver)
@@ -32,7 +33,7 @@ fn main(rt: HostRuntime) -> io::Result<()> {
     channels::faulty(&rt, driver)?;
     checks::faulty(&rt)?;
     print!(rt; "\n\n5. Refusals before any action")?;
-    startups::begin(&rt, 4, 125e6, 4, None, None)?;
+    startups::begin(&rt, 4, 125e6, 4, Trial::new())?;
     let ratio = 16.0;
     startups::freeze(&rt, Driver { mode: 4, ratio })?;
     channels::refused(&rt)?;

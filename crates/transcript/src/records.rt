@@ -1,7 +1,7 @@
 // Records made by hand.
 use crate::channels::on;
 use crate::chip::Fault;
-use crate::run::play;
+use crate::run::{Trial, play};
 use crate::show;
 use crate::startups::title;
 use convert::Driver;
@@ -24,7 +24,8 @@ fn startup(rt: &impl Print, step: u32, mode: u32, reference: f32, fr1: u32) -> i
         multiplier: 4,
         fr1,
     };
-    play(rt, Kind::Startup(record), Some(Fault::Reads(1, 0xf6)), None)?;
+    let trial = Trial::new().with(Fault::Reads(1, 0xf6));
+    play(rt, Kind::Startup(record), trial)?;
     Ok(())
 }
 
@@ -51,7 +52,7 @@ fn transfer(rt: &impl Print, record: Transfer) -> io::Result<()> {
     };
     on(rt, driver, record.mask)?;
     print!(rt; ", step {}", record.step)?;
-    play(rt, Kind::Transfer(record), None, None)?;
+    play(rt, Kind::Transfer(record), Trial::new())?;
     Ok(())
 }
 
@@ -100,13 +101,13 @@ pub fn transfers(rt: &impl Print) -> io::Result<()> {
 
 fn test(rt: &impl Print, step: u32, old: u32) -> io::Result<()> {
     print!(rt; "\nself test at step {step}, old byte 0x{old:02x}")?;
-    play(rt, Kind::SelfTest(SelfTest { step, old }), None, None)?;
+    play(rt, Kind::SelfTest(SelfTest { step, old }), Trial::new())?;
     Ok(())
 }
 
 fn reading(rt: &impl Print, step: u32, address: u32) -> io::Result<()> {
     print!(rt; "\nread {} at step {step}", show::Register(address))?;
-    play(rt, Kind::Register(Register { step, address }), None, None)?;
+    play(rt, Kind::Register(Register { step, address }), Trial::new())?;
     Ok(())
 }
 

@@ -5,15 +5,47 @@ use bus::{Reply, Sequence};
 use host::{Kind, Outcome};
 use std::io;
 
-/// Twenty turns: no sequence has more than 17 actions. One turn alone is shown, or all with their answers. What the last reply
-/// brought.
-pub fn play(
-    rt: &impl Print,
-    mut sequence: Kind,
+/// How a sequence is tried: what goes wrong, and the one turn that is shown, or else all with their answers.
+#[derive(Clone, Copy)]
+pub struct Trial {
     fault: Option<Fault>,
     only: Option<usize>,
-) -> io::Result<Option<Outcome>> {
-    let mut chip = Chip::new(fault);
+}
+
+impl Trial {
+    pub fn new() -> Trial {
+        Trial {
+            fault: None,
+            only: None,
+        }
+    }
+
+    pub fn with(self, fault: Fault) -> Trial {
+        Trial {
+            fault: Some(fault),
+            ..self
+        }
+    }
+
+    pub fn showing(self, turn: usize) -> Trial {
+        Trial {
+            only: Some(turn),
+            ..self
+        }
+    }
+
+    /// What goes wrong, if anything does.
+    pub fn title(self, rt: &impl Print) -> io::Result<()> {
+        match self.fault {
+            Some(fault) => print!(rt; "{fault}"),
+            None => Ok(()),
+        }
+    }
+}
+
+/// Twenty turns: no sequence has more than 17 actions. What the last reply brought.
+pub fn play(rt: &impl Print, mut sequence: Kind, trial: Trial) -> io::Result<Option<Outcome>> {
+    let mut chip = Chip::new(trial.fault);
     let mut count = 0;
     let mut last = Ok(None);
     for n in 1..21usize {
@@ -23,7 +55,7 @@ pub fn play(
         let reply = chip.play(n, action);
         last = sequence.reply(reply);
         count = n;
-        match only {
+        match trial.only {
             None => print!(rt; "\n{n:>4}  {}{}", Turn { action, reply }, Answer(last))?,
             Some(turn) if turn == n => print!(rt; "\n{n:>4}  {}", Turn { action, reply })?,
             Some(_) => {}
@@ -32,7 +64,7 @@ pub fn play(
     if count == 0 {
         print!(rt; ": hands out nothing")?;
     } else {
-        let line = if only.is_none() { "\n      " } else { "" };
+        let line = if trial.only.is_none() { "\n      " } else { "" };
         print!(rt; "{line}handed out {count}, ended with {}", Answer(last))?;
     }
     more(rt, sequence)?;
@@ -53,24 +85,10 @@ fn more(rt: &impl Print, mut sequence: Kind) -> io::Result<()> {
     Ok(())
 }
 
-/// What goes wrong, if anything does.
-pub fn faulted(rt: &impl Print, fault: Option<Fault>) -> io::Result<()> {
-    match fault {
-        Some(fault) => print!(rt; "{fault}"),
-        None => Ok(()),
-    }
-}
-
-pub fn titled(
-    rt: &impl Print,
-    title: &str,
-    sequence: Kind,
-    fault: Option<Fault>,
-    only: Option<usize>,
-) -> io::Result<()> {
+pub fn titled(rt: &impl Print, title: &str, sequence: Kind, trial: Trial) -> io::Result<()> {
     print!(rt; "{title}")?;
-    faulted(rt, fault)?;
-    play(rt, sequence, fault, only)?;
+    trial.title(rt)?;
+    play(rt, sequence, trial)?;
     Ok(())
 }
 
@@ -78,7 +96,8 @@ pub fn titled(
 pub fn each(rt: &impl Print, title: &str, sequence: Kind, count: usize) -> io::Result<()> {
     print!(rt; "{title}")?;
     for n in 1..=count {
-        play(rt, sequence, Some(Fault::Fails(n)), Some(n))?;
+        let trial = Trial::new().with(Fault::Fails(n)).showing(n);
+        play(rt, sequence, trial)?;
     }
     Ok(())
 }

@@ -3,6 +3,7 @@ use bus::{Action, IO_UPDATE, Reply};
 use host::Outcome;
 use registers::address;
 use registers::refusal::Refusal;
+use registers::write::Write;
 use std::fmt;
 
 /// A float's sign, its size cut to three places, and its bit pattern.
@@ -46,17 +47,14 @@ impl fmt::Display for Register {
 
 // A register's value, in thirteen columns: in as many digits as it has, or in eight where it is too wide.
 #[derive(Clone, Copy)]
-struct Value {
-    address: u32,
-    value: u32,
-}
+struct Value(Write);
 
 impl fmt::Display for Value {
     #[tactic(auto, using(registers::proofs::Widths::width_most))]
     fn fmt<W: fmt::Write>(&self, f: &mut fmt::Formatter<W>) -> fmt::Result {
-        let value = self.value;
-        let digits = if address::holds(self.address, value) {
-            2 * address::width(self.address)
+        let Write { address, value } = self.0;
+        let digits = if address::holds(address, value) {
+            2 * address::width(address)
         } else {
             8
         };
@@ -88,7 +86,7 @@ impl fmt::Display for Turn {
             Action::Configure(mode) => write!(f, "configure  mode {mode}            ")?,
             Action::Write(address, value) => {
                 let register = Register(address);
-                let value = Value { address, value };
+                let value = Value(Write { address, value });
                 write!(f, "write      {register}{value}")?;
             }
             Action::Read(address) => {
@@ -99,11 +97,8 @@ impl fmt::Display for Turn {
         match self.action {
             _ if self.reply.failed => f.write_str(" failed      "),
             Action::Read(address) => {
-                let value = Value {
-                    address,
-                    value: self.reply.value,
-                };
-                write!(f, "{value}")
+                let value = self.reply.value;
+                write!(f, "{}", Value(Write { address, value }))
             }
             _ => f.write_str(" good        "),
         }
