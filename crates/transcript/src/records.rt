@@ -56,45 +56,37 @@ fn transfer(rt: &impl Print, record: Transfer) -> io::Result<()> {
     Ok(())
 }
 
-/// One thing is wrong with each but the last, which is past its check of the ratio.
-pub fn transfers(rt: &impl Print) -> io::Result<()> {
-    let get = Transfer {
+// A transfer that is as it should be.
+fn right(register: u32, access: Access) -> Transfer {
+    Transfer {
         step: 0,
         mode: 3,
         mask: 1,
-        register: address::CFTW0,
-        access: Access::Get,
+        register,
+        access,
         ratio: 16.0,
-    };
-    transfer(rt, Transfer { step: 2, ..get })?;
-    transfer(rt, Transfer { mode: 4, ..get })?;
-    transfer(rt, Transfer { mask: 16, ..get })?;
+    }
+}
+
+/// One thing is wrong with each but the last, which is past its check of the ratio.
+pub fn transfers(rt: &impl Print) -> io::Result<()> {
+    let read = right(address::CFTW0, Access::Get);
+    transfer(rt, Transfer { step: 2, ..read })?;
+    transfer(rt, Transfer { mode: 4, ..read })?;
+    transfer(rt, Transfer { mask: 16, ..read })?;
     let ratio = f32::NAN;
-    transfer(rt, Transfer { ratio, ..get })?;
-    let register = address::LSRR;
-    transfer(rt, Transfer { register, ..get })?;
-    let register = address::CSR;
-    transfer(rt, Transfer { register, ..get })?;
-    let cpow0 = Transfer {
-        register: address::CPOW0,
-        access: Access::Set(0x4000),
-        ..get
-    };
-    transfer(rt, cpow0)?;
-    let acr = Transfer {
-        register: address::ACR,
-        access: Access::Set(0x100_0000),
-        ..get
-    };
-    transfer(rt, acr)?;
-    let access = Access::Set(0x3fff);
+    transfer(rt, Transfer { ratio, ..read })?;
+    transfer(rt, right(address::LSRR, Access::Get))?;
+    transfer(rt, right(address::CSR, Access::Get))?;
+    transfer(rt, right(address::CPOW0, Access::Set(0x4000)))?;
+    transfer(rt, right(address::ACR, Access::Set(0x100_0000)))?;
+    let write = right(address::CPOW0, Access::Set(0x3fff));
     transfer(
         rt,
         Transfer {
             step: 1,
-            access,
             ratio,
-            ..cpow0
+            ..write
         },
     )
 }
