@@ -10,6 +10,7 @@ ghost use Rattle.bus.specs.Sequence.{Plan, Follows, Ran, action, answer, after};
 use registers::address;
 use registers::refusal::Refusal;
 
+// Pins, by number: `Action::Pin` has any u32.
 pub const IO_UPDATE: u32 = 0;
 
 pub const RESET: u32 = 1;

@@ -17,6 +17,7 @@ pub enum Access {
     Get,
 }
 
+// The step stays a number, by which its table is read: a record made by hand may have any, as `Plan` has it.
 // Of the driver's record it keeps what its actions and its result need. These are fields of its own, since the laws of
 // `Transfers` and `Begins` speak of a sequence's mode and ratio, and a hand-made one may have any.
 #[derive(Clone, Copy)]
@@ -145,6 +146,7 @@ impl Transfer {
         }
     }
 
+    // By the register: the three meanings don't take the same values.
     fn meaning(self, word: u32) -> f32
         ensures { result ≡ meaning_of self.register self.ratio word }
     {

@@ -8,6 +8,7 @@ use bus::{Action, Sequence};
 use registers::address;
 use registers::refusal::Refusal;
 
+// The step stays a number, by which its table is read: a record made by hand may have any, as `Plan` has it.
 #[derive(Clone, Copy, Debug, PartialEq, Eq)]
 pub struct Register {
     pub step: u32,

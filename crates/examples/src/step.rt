@@ -46,6 +46,7 @@ pub fn push(rt: &HostRuntime, serializer: &mut ProfileSerializer, push: Push) ->
 
 /// A profile is padded and handed out: its bytes and words.
 pub fn finalize(rt: &HostRuntime, serializer: &mut ProfileSerializer) -> io::Result<()> {
+    // `finalize` fills what it is lent, and no profile takes more than eight words.
     let mut words = [0u32; 8];
     let answer = serializer.finalize(&mut words);
     let length = serializer.length;

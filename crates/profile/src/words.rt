@@ -1,4 +1,5 @@
 // Bytes to words, low byte first.
+// Bytes, words and how many stay apart, with the facts of the three, as `lent` has them from C.
 ghost use Rattle.std.specs.Prelude.{◌≡◌, ◌+◌, ◌*◌, ◌<◌, ◌≤◌, length, drop};
 ghost use Rattle.registers.specs.Bytes.{laid};
 ghost use Rattle.profile.specs.Serializer.{four_of, words_of};
@@ -28,6 +29,7 @@ fn four(bytes: &[u8], n: usize, i: usize, words: &mut [u32])
     words[i + 3] = d;
 }
 
+// Loads first here too: the `for` that would stand for both functions misses the speed.
 // Of n words those from i on, at most three.
 #[tactic(auto, using(crate::proofs::Left::done, crate::proofs::Left::one_word, crate::proofs::Left::two_words, crate::proofs::Left::three_words))]
 fn rest(bytes: &[u8], n: usize, i: usize, words: &mut [u32])

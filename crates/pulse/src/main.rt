@@ -36,6 +36,7 @@ fn chunk(
 fn run<I: Read>(rt: &impl Print, err: &impl Print, input: &mut I, name: &[u8]) -> io::Result<bool> {
     let mut script = Script::new();
     let mut line = ArrayVec::new();
+    // Of a fixed size: `Read::read` fills what it is lent.
     let mut buffer = [0u8; 4096];
     let mut whole = true;
     // a loop that reads has a bound, since a reader may never end
@@ -81,6 +82,7 @@ fn typed(rt: &HostRuntime) -> io::Result<bool> {
 // Every script that is named, or else what is typed. Whether all could be read.
 fn played(rt: &HostRuntime) -> io::Result<bool> {
     let err = rt.stderr();
+    // Of a fixed size: `arg` fills what it is lent.
     let mut path = [0u8; 4096];
     let mut some = false;
     let mut all = true;

@@ -95,6 +95,7 @@ fn cell(rt: &impl Print, value: Option<u32>, digits: usize) -> io::Result<()> {
 
 // What the registers end as. Fed to zeros and to ones alike, only what is written ends the same.
 fn ends(rt: &impl Print, serializer: ProfileSerializer) -> io::Result<()> {
+    // Two images: `feed` fills what it is lent.
     let mut zeros = [0u32; 91];
     let mut ones = [0xffff_ffffu32; 91];
     let _ = profile::feed(serializer, &mut zeros);
@@ -106,6 +107,7 @@ fn ends(rt: &impl Print, serializer: ProfileSerializer) -> io::Result<()> {
     println!(rt;
         "\nchannel  CFTW0       CPOW0   ACR       LSRR      (-: not written, stays as it was)"
     )?;
+    // By number: it is shown, and the image's stride goes by it.
     for channel in 0..4usize {
         // a channel's registers, CFR first
         let cfr = 3 + channel * 22;
@@ -130,6 +132,7 @@ fn words(rt: &impl Print, serializer: ProfileSerializer) -> io::Result<()> {
     if length % 4 != 0 {
         return print!(rt; " none yet: {length} is no multiple of 4, and finalize pads it");
     }
+    // `finalize` fills what it is lent, and no profile takes more than eight words.
     let mut words = [0u32; 8];
     let finalized = profile::finalize(serializer, &mut words);
     for word in words.iter().take(finalized.answer.unwrap_or(0)) {

@@ -12,6 +12,7 @@ fn shown(b: u8) -> u8 {
 
 /// A stranger's text, of at most 4,096 bytes. It is bytes and not `str`: any are shown as they are.
 pub fn plain(out: &impl Print, text: &[u8]) -> io::Result<()> {
+    // A buffer, written at once: a String holds text, and these are bytes.
     let mut safe = [0u8; 4096];
     for (to, &from) in safe.iter_mut().zip(text) {
         *to = shown(from);

@@ -18,6 +18,7 @@ struct Count {
     differ: u32,
 }
 
+// The kind is matched once, on the line's number: an enum would be made of it here and taken apart at once.
 // Whether the port gives what a line says. Its first number is its kind.
 fn same(mut numbers: Numbers) -> bool {
     match numbers.next() {
@@ -60,6 +61,7 @@ fn fill<I: Read>(input: &mut I, buffer: &mut [u8]) -> io::Result<usize>
 
 fn main(rt: HostRuntime) -> io::Result<()> {
     let mut input = rt.stdin();
+    // Of a fixed size: `Read::read` fills what it is lent.
     let mut buffer = [0u8; 4096];
     let mut line = Line::new();
     let mut count = Count {

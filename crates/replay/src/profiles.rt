@@ -24,6 +24,7 @@ pub fn played(mut numbers: Numbers) -> bool {
         }
         serializer = stepped.serializer;
     }
+    // `finalize` fills what it is lent, and no profile takes more than eight words.
     let mut words = [0u32; 8];
     let Ok(count) = serializer.finalize(&mut words) else {
         return false;

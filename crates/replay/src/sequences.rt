@@ -64,6 +64,7 @@ pub fn started(mut numbers: Numbers) -> bool {
     }
 }
 
+// A match and no closures: each arm is another function of the driver, picked once.
 // A setting of a register or its reading.
 fn begun(
     driver: Driver,

@@ -12,6 +12,7 @@ use convert::{Driver, clock};
 use registers::address;
 use registers::refusal::Refusal;
 
+// The step stays a number, by which its table is read: a record made by hand may have any, as `Plan` has it.
 // The step, what was asked for, and the FR1 that was read.
 #[derive(Clone, Copy)]
 pub struct Startup {
@@ -22,6 +23,7 @@ pub struct Startup {
     pub fr1: u32,
 }
 
+// Three parameters: the record of them is what it makes.
 pub fn new(mode: u32, reference: f32, multiplier: u32) -> Result<Startup, Refusal>
     ensures { result ≡ new_of mode reference multiplier }
 {

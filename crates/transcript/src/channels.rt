@@ -37,6 +37,7 @@ pub fn on(rt: &impl Print, driver: Driver, mask: u32) -> io::Result<()> {
     print!(rt; " in mode {}, mask {mask}, ratio {ratio}", driver.mode)
 }
 
+// A match and no closures: a wish is printed too.
 fn begun(driver: Driver, mask: u32, wish: Wish) -> Result<Transfer, Refusal> {
     match wish {
         Wish::SetFrequency(x) => channel::set_frequency(driver, mask, x),
