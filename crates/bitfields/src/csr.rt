@@ -1,4 +1,5 @@
 // CSR, the channel select register.
+// Mode and mask are tested in a line wherever they are refused, here and in the crates above: a function for it would say no more.
 ghost use Rattle.std.specs.Prelude.{◌≡◌};
 ghost use Rattle.bitfields.specs.Csr.{csr_of, with_mode, with_channel};
 

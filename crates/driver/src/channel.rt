@@ -45,6 +45,7 @@ fn begin(driver: Driver, mask: u32, register: u32) -> Result<Transfer, Refusal>
     })
 }
 
+// Three settings, which callers know: each has its register, its conversion and its refusals.
 pub fn set_frequency(driver: Driver, mask: u32, frequency: f32) -> Result<Transfer, Refusal>
     ensures { result ≡ set_frequency driver mask frequency }
 {

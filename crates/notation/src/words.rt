@@ -5,6 +5,7 @@ ghost use Rattle.notation.specs.Lines.{with_place, value_of};
 
 use crate::{Fault, digits};
 
+// No invariant: a part lies within a line only beside that line.
 /// A part of a line, from one place up to another: `read`'s fault has places, so that who reads it can quote the line.
 #[derive(Clone, Copy, Debug, PartialEq, Eq)]
 pub struct Span {
@@ -40,6 +41,7 @@ fn stops(inside: bool, b: u8) -> bool
     }
 }
 
+// That the line stays is said by each method: a `&mut self` may change any field.
 // The words of a line, read one after another from a place on.
 #[derive(Drop)]
 pub struct Words<'a> {

@@ -32,6 +32,7 @@ pub(crate) fn push(bytes: &mut [u8], at: usize, mode: u32, push: Push) -> usize
     let b = given(bytes, at + 2, address::CFTW0, word);
     let c = given(bytes, b, address::CPOW0, push.phase);
     let d = given(bytes, c, address::ACR, push.acr);
+    // CSR's byte is worked out here: `csr::of` would judge mode and mask once more.
     let csr = Write {
         address: address::CSR,
         value: push.mask * 16 + mode * 2,

@@ -19,6 +19,7 @@ fn channels(rt: &impl Print, csr: u32) -> io::Result<()> {
     print!(rt; " ")
 }
 
+// A line of each register's own, as its columns differ.
 // A write's place, register and value. A serializer writes no other registers.
 fn head(rt: &impl Print, at: usize, write: Write) -> io::Result<()> {
     let Write { address, value } = write;

@@ -8,6 +8,7 @@ use host::{Kind, Outcome};
 use registers::address;
 use registers::refusal::{self, Refusal};
 
+// A function and no `From`: an action and an array are both other crates' types.
 // An action as numbers: its kind, and its one or two.
 fn numbers_of(action: Action) -> [u32; 3] {
     match action {
@@ -29,6 +30,7 @@ fn number_of(answer: Result<Option<Outcome>, Refusal>) -> u32 {
     }
 }
 
+// Not by `bus::run`: what is compared turn by turn would be fields of a `Bus`, and no shorter.
 // Twenty turns: no sequence has more than 17 actions. What fails, the number, the result, the count, the actions.
 fn played(mut sequence: Kind, mut numbers: Numbers) -> bool {
     let failing = numbers.next();

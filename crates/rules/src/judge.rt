@@ -1,4 +1,5 @@
 // When a step is refused, and what it needs where it is not.
+// The limits are the rules' own numbers: CPOW0 has two bits more than a phase.
 ghost use Rattle.std.specs.Prelude.{◌≡◌, ◌+◌, ◌*◌, OnOk, IfOk};
 ghost use Rattle.registers.specs.Registers.{CFTW0};
 ghost use Rattle.rules.specs.Rules.{word_of, push_judged, finalize_judged, padding, quarter, above};

@@ -45,7 +45,6 @@ impl fmt::Display for Register {
     }
 }
 
-// A type of its own beside `Write`: it is there to be printed, and a value that was read is printed too.
 // A register's value, in thirteen columns: in as many digits as it has, or in eight where it is too wide.
 #[derive(Clone, Copy)]
 struct Value(Write);
