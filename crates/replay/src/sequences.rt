@@ -67,6 +67,7 @@ pub fn started(mut numbers: Numbers) -> bool {
 }
 
 // A match and no closures: each arm is another function of the driver, picked once.
+// Driver and mask stay two parameters, as driver's functions take them.
 // A setting of a register or its reading.
 fn begun(
     driver: Driver,

@@ -31,6 +31,7 @@ impl fmt::Display for Wish {
     }
 }
 
+// Driver and mask stay two parameters, as driver's functions take them.
 /// Where something is done.
 pub fn on(rt: &impl Print, driver: Driver, mask: u32) -> io::Result<()> {
     let ratio = Float(driver.ratio);
