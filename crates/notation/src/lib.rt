@@ -74,14 +74,11 @@ impl Field {
     fn named(text: &[u8]) -> Option<Field>
         ensures { result ≡ named_of text.now }
     {
-        if text == "word".as_bytes() {
-            Some(Field::Word)
-        } else if text == "phase".as_bytes() {
-            Some(Field::Phase)
-        } else if text == "acr".as_bytes() {
-            Some(Field::Acr)
-        } else {
-            None
+        match text {
+            b"word" => Some(Field::Word),
+            b"phase" => Some(Field::Phase),
+            b"acr" => Some(Field::Acr),
+            _ => None,
         }
     }
 
@@ -207,19 +204,14 @@ pub fn read(line: &[u8]) -> Result<Line, Fault>
     if part.is_empty() {
         return Ok(Line::Blank);
     }
-    let name = part.of(line);
-    if name == "push".as_bytes() {
-        read_push(&mut words)
-    } else if name == "mode".as_bytes() {
-        read_mode(&mut words)
-    } else if name == "finalize".as_bytes() {
-        alone(&mut words, Line::Finalize)
-    } else if name == "show".as_bytes() {
-        alone(&mut words, Line::Show)
-    } else {
-        Err(Fault {
+    match part.of(line) {
+        b"push" => read_push(&mut words),
+        b"mode" => read_mode(&mut words),
+        b"finalize" => alone(&mut words, Line::Finalize),
+        b"show" => alone(&mut words, Line::Show),
+        _ => Err(Fault {
             reason: Reason::Step,
             part,
-        })
+        }),
     }
 }
