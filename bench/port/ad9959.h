@@ -1,6 +1,6 @@
 /* The C boundary of the proved AD9959 driver. Written by hand from crates/boundary_c/src; tests/header.c calls every function.
  *
- * Each function returns one of the fourteen numbers of crates/registers/specs/Answers.antt (0 is Ok) and asks nothing of its caller but that a
+ * Each function returns 0, which is Ok, or the number of a refusal (crates/registers/specs/Refusals.antt), and asks nothing of its caller but that a
  * pointer is good for what its type says: one value, 32 bytes, or so many elements. Pointers that are written through must not overlap. On a
  * refusal the lent bytes, words and length stay, and every other result is zero. */
 #ifndef AD9959_H

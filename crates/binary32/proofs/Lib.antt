@@ -1,4 +1,3 @@
 pub mod Moves
 pub mod Pattern
 pub mod Ones
-pub mod Nans

@@ -2,19 +2,13 @@
 --     clock_keeps        every bit below 18 stays, unnamed ones too; above 23 there is none
 --     clock_multiplier   the multiplier reads back
 --     clock_vco          vco_high reads back
---     clock_refused, clock_set   the two settings, one after the other, are the one
-use mathlib.Core.Path.{◌≡◌, refl, sym, ap, ◌∙◌}
-use mathlib.Core.Bool.{Bool, true, false, ◌&&◌, cond, and-true}
-use Prim.Native.Nat.{ℕ, ◌<◌, ◌^◌}
+use mathlib.Core.Path.{◌≡◌, ◌∙◌}
+use Prim.Native.Nat.{ℕ, ◌<◌}
 use native.Mathlib.Omega.{arith}
-use lib.Dec.{ltb, lit≤}
-use borrow.Author.Tests.{ltb-true, lt-ltb}
-use Rattle.registers.specs.declared.answer.Answer.{Answer}
-use Rattle.registers.specs.Answers.{Word, refused, accepted}
-use Rattle.registers.specs.Registers.{FR1, holds, width_of}
-use Rattle.registers.specs.Fields.{bit, field_of, with_field, set_in}
-use Rattle.bitfields.specs.Fr1.{pll_divier, vco_high, clock_in, with_clock}
-use Rattle.registers.proofs.Fields.{get_set, stays_below, set_lt}
+use lib.Dec.{lit≤}
+use Rattle.registers.specs.Fields.{bit, field_of, with_field}
+use Rattle.bitfields.specs.Fr1.{pll_divier, vco_high, clock_in}
+use Rattle.registers.proofs.Fields.{get_set, stays_below}
 
 module _ (fr1 m v : ℕ) (hm : m < 32) (hv : v < 2) where
   pub clock_keeps : (k : ℕ) → k < 18 → field_of (clock_in fr1 m v) (bit k) ≡ field_of fr1 (bit k)
@@ -26,29 +20,3 @@ module _ (fr1 m v : ℕ) (hm : m < 32) (hv : v < 2) where
 
   pub clock_vco : field_of (clock_in fr1 m v) vco_high ≡ v
   clock_vco = get_set (with_field fr1 pll_divier m) vco_high v hv
-
-module _ (fr1 m v : ℕ) (r : Answer) (made : r ≡ set_in FR1 fr1 pll_divier m) where
-  pub clock_refused : (r.number ≡ 0 → ⊥) → r ≡ with_clock fr1 m v
-  unfolding width_of
-  clock_refused bad = by (holds FR1 fr1) (ltb m 32) made
-    where
-      by : (h t : Bool) → r ≡ cond h (cond (t && true) (accepted (with_field fr1 pll_divier m)) (refused Word)) (refused Word)
-          → r ≡ cond (h && t && ltb v 2) (accepted (clock_in fr1 m v)) (refused Word)
-      by false t e = e
-      by true false e = e
-      by true true e = absurd (bad (rw e))
-
-  pub clock_set : (q : Answer) → r.number ≡ 0 → q ≡ set_in FR1 r.value vco_high v → q ≡ with_clock fr1 m v
-  unfolding width_of
-  clock_set q good then = by (holds FR1 fr1) (ltb m 32) refl refl made
-    where
-      wrong : r ≡ refused Word → ⊥
-      wrong e = let k : ◌≡◌ {A = ℕ} 8 0 = sym (ap (λ (a : Answer). a.number) e) ∙ good in omega arith
-
-      by : (h t : Bool) → holds FR1 fr1 ≡ h → ltb m 32 ≡ t → r ≡ cond h (cond (t && true) (accepted (with_field fr1 pll_divier m)) (refused Word)) (refused Word)
-          → q ≡ cond (h && t && ltb v 2) (accepted (clock_in fr1 m v)) (refused Word)
-      by false t f g e = absurd (wrong e)
-      by true false f g e = absurd (wrong e)
-      by true true f g e =
-          let fits : holds FR1 (with_field fr1 pll_divier m) ≡ true = lt-ltb _ _ (set_lt fr1 pll_divier m (ltb-true m 32 g) 24 (ltb-true fr1 (2 ^ 24) f) (lit≤ tt)) in
-          then ∙ rw (e, fits, and-true (ltb v 2))

@@ -1,8 +1,8 @@
 -- Document 01, FR1: bits 18..22 multiplier, bit 23 vco_high, other fields as in the Rust's `Fr1`. Definitions only.
-use Rattle.std.specs.Prelude.{ℕ, cond, ◌&&◌, ltb}
-use Rattle.registers.specs.declared.answer.Answer.{Answer}
+use Rattle.std.specs.Prelude.{ℕ, Result, Ok, Err, cond, ◌&&◌, ltb}
 use Rattle.registers.specs.declared.field.Field.{Field}
-use Rattle.registers.specs.Answers.{Word, refused, accepted}
+use Rattle.registers.specs.declared.refusal.Refusal.{Refusal}
+use Rattle.registers.specs.declared.refusal.Refusal.TheVariants.{Word}
 use Rattle.registers.specs.Registers.{FR1, holds}
 use Rattle.registers.specs.Fields.{bit, bits, with_field}
 
@@ -48,5 +48,5 @@ abbrev pub clock_in : ℕ → ℕ → ℕ → ℕ
 clock_in fr1 multiplier vco = with_field (with_field fr1 pll_divier multiplier) vco_high vco
 
 -- a raw value, a multiplier or a vco_high that is too wide is Word
-abbrev pub with_clock : ℕ → ℕ → ℕ → Answer
-with_clock fr1 multiplier vco = cond (holds FR1 fr1 && ltb multiplier 32 && ltb vco 2) (accepted (clock_in fr1 multiplier vco)) (refused Word)
+abbrev pub with_clock : ℕ → ℕ → ℕ → Result ℕ Refusal
+with_clock fr1 multiplier vco = cond (holds FR1 fr1 && ltb multiplier 32 && ltb vco 2) (Ok (clock_in fr1 multiplier vco)) (Err Word)

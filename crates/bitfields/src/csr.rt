@@ -1,86 +1,54 @@
 // CSR, the channel select register.
+// Mode and mask are tested in a line wherever they are refused, here and in the crates above: a function for it would say no more.
 ghost use Rattle.std.specs.Prelude.{◌≡◌};
-ghost use Rattle.registers.specs.Registers.{CSR};
-ghost use Rattle.registers.specs.Fields.{get_in, set_in, raw_in};
-ghost use Rattle.bitfields.specs.Csr.{lsb_first, mode, channel, byte_of, csr_of, with_mode, with_channel};
+ghost use Rattle.bitfields.specs.Csr.{csr_of, with_mode, with_channel};
 
-use registers::address::CSR;
-use registers::answer::Answer;
+use registers::bits;
 use registers::field::Field;
-use registers::{answer, field};
+use registers::refusal::Refusal;
+use registers::register::Register;
 
-pub const LSB_FIRST: Field = Field {
-    position: 0,
-    width: 1,
-};
+pub type Csr = Register<0x00>;
 
-pub const MODE: Field = Field {
-    position: 1,
-    width: 2,
-};
+pub const LSB_FIRST: Field = bits!(0, 0);
 
-pub const CHANNEL: Field = Field {
-    position: 4,
-    width: 4,
-};
+pub const MODE: Field = bits!(1, 2);
 
-pub fn new_with_raw_value(raw: u32) -> Answer
-    ensures { result ≡ raw_in CSR raw }
+pub const CHANNEL: Field = bits!(4, 7);
+
+// A CSR in another mode: Mode, then Word.
+#[tactic(auto, unfolding(registers::specs::Registers::width_of))]
+pub fn with_mode(csr: u32, mode: u32) -> Result<u32, Refusal>
+    ensures { result ≡ with_mode csr mode }
 {
-    field::raw_in(CSR, raw)
-}
-
-pub fn lsb_first(csr: u32) -> Answer
-    ensures { result ≡ get_in CSR csr lsb_first }
-{
-    field::get_in(CSR, csr, LSB_FIRST)
-}
-
-pub fn with_lsb_first(csr: u32, value: u32) -> Answer
-    ensures { result ≡ set_in CSR csr lsb_first value }
-{
-    field::set_in(CSR, csr, LSB_FIRST, value)
-}
-
-pub fn mode(csr: u32) -> Answer
-    ensures { result ≡ get_in CSR csr mode }
-{
-    field::get_in(CSR, csr, MODE)
-}
-
-pub fn with_mode(csr: u32, value: u32) -> Answer
-    ensures { result ≡ with_mode csr value }
-{
-    if 3 < value {
-        return answer::refused(answer::MODE);
+    if 3 < mode {
+        return Err(Refusal::Mode);
     }
-    field::set_in(CSR, csr, MODE, value)
+    let csr = Csr::try_from(csr)?.with(MODE, mode)?;
+    Ok(csr.raw())
 }
 
-pub fn channel(csr: u32) -> Answer
-    ensures { result ≡ get_in CSR csr channel }
+// A CSR with other channels: Mask, then Word. It stands beside `with_mode`: field, limit and refusal as parameters would be no plainer.
+#[tactic(auto, unfolding(registers::specs::Registers::width_of))]
+pub fn with_channel(csr: u32, mask: u32) -> Result<u32, Refusal>
+    ensures { result ≡ with_channel csr mask }
 {
-    field::get_in(CSR, csr, CHANNEL)
-}
-
-pub fn with_channel(csr: u32, value: u32) -> Answer
-    ensures { result ≡ with_channel csr value }
-{
-    if 15 < value {
-        return answer::refused(answer::MASK);
+    if 15 < mask {
+        return Err(Refusal::Mask);
     }
-    field::set_in(CSR, csr, CHANNEL, value)
+    let csr = Csr::try_from(csr)?.with(CHANNEL, mask)?;
+    Ok(csr.raw())
 }
 
 // The CSR that the driver builds: the mask's channels in a mode.
-pub fn of(mode: u32, mask: u32) -> Answer
+pub fn of(mode: u32, mask: u32) -> Result<u32, Refusal>
     ensures { result ≡ csr_of mode mask }
 {
     if 3 < mode {
-        return answer::refused(answer::MODE);
+        return Err(Refusal::Mode);
     }
     if 15 < mask {
-        return answer::refused(answer::MASK);
+        return Err(Refusal::Mask);
     }
-    answer::accepted(mask * 16 + mode * 2)
+    Ok(mask * 16 + mode * 2)
 }

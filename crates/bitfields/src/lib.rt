@@ -1,4 +1,4 @@
-// The bitfields of CSR, FR1 and ACR: plain functions on a raw value.
+// The bitfields of CSR, FR1 and ACR: each register's type, its fields, and the values that the driver builds.
 #![tactic(auto)]
 
 pub mod acr;

@@ -1,18 +1,20 @@
--- The C boundary: a push's optional fields as numbers. Definitions only.
-use Rattle.std.specs.Prelude.{ℕ, ◌/◌, ◌%◌, cond, ltb, eqb, ℤ}
-use Rattle.rules.specs.declared.Tuning.{Tuning}
-use Rattle.rules.specs.declared.Tuning.TheVariants.{Tune, Keep}
-use Rattle.rules.specs.declared.Value.{Value}
-use Rattle.rules.specs.declared.Value.TheVariants.{Given, Absent}
+-- The C boundary: what stands for a value that is not there. Definitions only.
+use Rattle.std.specs.Prelude.{ℕ, ◌/◌, ◌%◌, cond, ltb, eqb, ℤ, Option, Some, None}
+use Rattle.binary32.specs.Floats.{whole}
+use Rattle.convert.specs.declared.Setting.{Setting}
+use Rattle.convert.specs.declared.clock.Clock.{Clock}
+use Rattle.rules.specs.declared.Push.{Push}
+use Rattle.rules.specs.Rules.{given_by}
 
--- bit 0 of presence: the tuning word is given
-abbrev pub tuning_at : ℕ → ℤ → Tuning
-tuning_at presence word = cond (ltb 7 presence) Keep (cond (eqb (presence % 2) 1) (Tune word) Keep)
+-- beside a refusal
+abbrev pub no_setting : Setting
+no_setting = record { word = 0; achieved = whole 0 }
 
--- bit 1: the phase word. A presence above 7 stands for one that is too wide, so that the push is refused in its own order: Mode, Mask, Word
-abbrev pub phase_at : ℕ → ℕ → Value
-phase_at presence phase = cond (ltb 7 presence) (Given 4294967295) (cond (eqb (presence / 2 % 2) 1) (Given phase) Absent)
+abbrev pub no_clock : Clock
+no_clock = record { system = whole 0; vco = 0; ratio = whole 0 }
 
--- bit 2: the ACR
-abbrev pub acr_at : ℕ → ℕ → Value
-acr_at presence acr = cond (ltb 7 presence) Absent (cond (eqb (presence / 4 % 2) 1) (Given acr) Absent)
+-- bits 0, 1, 2 of presence: word, phase, ACR. A presence above 7 stands for a phase that is too wide, so that the push is refused in its own order: Mode, Mask, Word
+abbrev pub push_at : ℕ → ℕ → ℤ → ℕ → ℕ → Push
+push_at mask presence word phase acr =
+    cond (ltb 7 presence) (record { mask = mask; word = None; phase = Some 4294967295; acr = None })
+    (record { mask = mask; word = given_by presence word; phase = given_by (presence / 2) phase; acr = given_by (presence / 4) acr })

@@ -1,8 +1,15 @@
 // Streams and the register image.
-ghost use Rattle.std.specs.Prelude.{◌≡◌};
-ghost use Rattle.image.specs.Feed.{Feeds};
-ghost use Rattle.stream.specs.Decoder.{Decodes};
-ghost use Rattle.stream.specs.Encoder.{Encodes};
+ghost use Rattle.std.specs.Prelude.{◌≡◌, ◌≢◌, length};
+ghost use Rattle.std.specs.Result.{result_unwrap_or};
+ghost use Rattle.registers.specs.Bytes.{laid};
+ghost use Rattle.registers.specs.Refusals.{number_of};
+ghost use Rattle.image.specs.Feed.{feed_judged, feed_of};
+ghost use Rattle.stream.specs.Streams.{encode};
+ghost use Rattle.stream.specs.Decoder.{writes_of, decode_judged, Filled};
+ghost use Rattle.stream.specs.Encoder.{pairs, encode_judged};
+
+use crate::give;
+use registers::refusal;
 
 // The writes of a stream, as addresses and values, and how many there are.
 pub fn ad9959_decode(
@@ -11,11 +18,13 @@ pub fn ad9959_decode(
     values: &mut [u32],
     count: &mut usize,
 ) -> u32
-    ensures { Decodes bytes.now addresses.old values.old (record { number = result; count = count.new }) addresses.new values.new }
+    ensures number { result ≡ number_of (decode_judged bytes.now (length addresses.old) (length values.old)) }
+    ensures count { count.new ≡ result_unwrap_or (decode_judged bytes.now (length addresses.old) (length values.old)) 0 }
+    ensures taken { result ≡ 0 → Filled (writes_of bytes.now) addresses.old values.old addresses.new values.new }
+    ensures addresses_kept { result ≢ 0 → addresses.new ≡ addresses.old }
+    ensures values_kept { result ≢ 0 → values.new ≡ values.old }
 {
-    let t = stream::decode(bytes, addresses, values);
-    *count = t.count;
-    t.number
+    give(stream::decode(bytes, addresses, values), 0, count)
 }
 
 // The stream of so many writes, and its length.
@@ -24,18 +33,20 @@ pub fn ad9959_encode(
     values: &[u32],
     count: usize,
     bytes: &mut [u8],
-    length: &mut usize,
+    len: &mut usize,
 ) -> u32
-    ensures { Encodes count addresses.now values.now bytes.old (record { number = result; count = length.new }) bytes.new }
+    ensures number { result ≡ number_of (encode_judged count addresses.now values.now (length bytes.old)) }
+    ensures count { len.new ≡ result_unwrap_or (encode_judged count addresses.now values.now (length bytes.old)) 0 }
+    ensures encoded { result ≡ 0 → bytes.new ≡ laid bytes.old 0 (encode (pairs count addresses.now values.now)) }
+    ensures kept { result ≢ 0 → bytes.new ≡ bytes.old }
 {
-    let t = stream::encode(addresses, values, count, bytes);
-    *length = t.count;
-    t.number
+    give(stream::encode(addresses, values, count, bytes), 0, len)
 }
 
 // A stream fed to an image of 91 words.
 pub fn ad9959_feed(bytes: &[u8], image: &mut [u32]) -> u32
-    ensures { Feeds bytes.now image.old result image.new }
+    ensures number { result ≡ number_of (feed_judged bytes.now image.old) }
+    ensures image { image.new ≡ feed_of bytes.now image.old }
 {
-    image::feed(bytes, image)
+    refusal::number(&image::feed(bytes, image))
 }

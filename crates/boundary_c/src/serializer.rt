@@ -1,13 +1,18 @@
 // A profile: its length and its 32 bytes are the caller's.
-ghost use Rattle.profile.specs.Lent.{Pushes, Seals};
-ghost use Rattle.boundary.specs.Boundary.{tuning_at, phase_at, acr_at};
+ghost use Rattle.std.specs.Prelude.{◌≡◌, ◌≢◌, length};
+ghost use Rattle.std.specs.Result.{result_unwrap_or};
+ghost use Rattle.registers.specs.Refusals.{number_of};
+ghost use Rattle.rules.specs.Rules.{finalize_judged};
+ghost use Rattle.profile.specs.Serializer.{push_of, finalized_of, handed};
+ghost use Rattle.profile.specs.Lent.{held};
+ghost use Rattle.boundary.specs.Boundary.{push_at};
 
 use boundary::serializer;
 
 #[unsafe(no_mangle)]
 pub extern "C" fn ad9959_push(
     mode: u32,
-    length: &mut usize,
+    len: &mut usize,
     bytes: &mut [u8; 32],
     mask: u32,
     presence: u32,
@@ -15,20 +20,25 @@ pub extern "C" fn ad9959_push(
     phase: u32,
     acr: u32,
 ) -> u32
-    ensures { Pushes mode length.old bytes.old mask (tuning_at presence word) (phase_at presence phase) (acr_at presence acr) result length.new bytes.new }
+    ensures number { result ≡ number_of (push_of (held mode len.old bytes.old) (push_at mask presence word phase acr)).answer }
+    ensures profile { held mode len.new bytes.new ≡ (push_of (held mode len.old bytes.old) (push_at mask presence word phase acr)).serializer }
 {
-    serializer::ad9959_push(mode, length, bytes, mask, presence, word, phase, acr)
+    serializer::ad9959_push(mode, len, bytes, mask, presence, word, phase, acr)
 }
 
 #[unsafe(no_mangle)]
 pub extern "C" fn ad9959_finalize(
     mode: u32,
-    length: &mut usize,
+    len: &mut usize,
     bytes: &mut [u8; 32],
     words: &mut [u32],
     count: &mut usize,
 ) -> u32
-    ensures { Seals mode length.old bytes.old words.old result length.new bytes.new count.new words.new }
+    ensures number { result ≡ number_of (finalize_judged mode len.old (length words.old)) }
+    ensures count { count.new ≡ result_unwrap_or (finalize_judged mode len.old (length words.old)) 0 }
+    ensures profile { held mode len.new bytes.new ≡ finalized_of (held mode len.old bytes.old) (length words.old) }
+    ensures handed { result ≡ 0 → words.new ≡ handed (held mode len.old bytes.old) words.old }
+    ensures untouched { result ≢ 0 → words.new ≡ words.old }
 {
-    serializer::ad9959_finalize(mode, length, bytes, words, count)
+    serializer::ad9959_finalize(mode, len, bytes, words, count)
 }

@@ -17,10 +17,11 @@ use lib.Ieee.Fits.{and_l, and_r, down_pos, round_is}
 use lib.Ieee.Nearest.{div_mono}
 use lib.Ieee.Order.{round_mono}
 use lib.Ieee.Positive.{positive, between}
+use Rattle.std.specs.Prelude.{Result, Ok, Err}
 use Rattle.convert.specs.declared.Setting.{Setting}
-use Rattle.convert.specs.Results.{refused, set}
 use Rattle.convert.specs.Frequency.{ready, limit_of, outside, meaning, word_of, setting_of}
-use Rattle.registers.specs.Answers.{Bounds, NotReady}
+use Rattle.registers.specs.declared.refusal.Refusal.{Refusal}
+use Rattle.registers.specs.declared.refusal.Refusal.TheVariants.{Bounds, NotReady}
 use Rattle.binary32.specs.Floats.{whole, ◌times◌}
 
 or_le : (a b : ℕ) → T (ltb a b || (eqb a b && true)) → a ≤ b
@@ -109,16 +110,19 @@ ready_positive : (ratio : Float) → T (ready ratio) → T (positive ratio)
 unfolding of_int
 ready_positive ratio t = between (whole 8) ratio (whole 4295) tt tt (and_l (le (whole 8) ratio) (le ratio (whole 4295)) t) (and_r (le (whole 8) ratio) (le ratio (whole 4295)) t)
 
-pub accepted : (ratio f : Float) → (setting_of ratio f).number ≡ 0 → T (ready ratio) × (setting_of ratio f ≡ set (word_of ratio f) (meaning ratio (word_of ratio f)))
-accepted ratio f = go (ready ratio) (outside (limit_of ratio) f) (set (word_of ratio f) (meaning ratio (word_of ratio f)))
+pub accepted : (ratio f : Float) (s : Setting) → setting_of ratio f ≡ Ok s → T (ready ratio) × (s ≡ record { word = word_of ratio f; achieved = meaning ratio (word_of ratio f) })
+accepted ratio f s = go (ready ratio) (outside (limit_of ratio) f) (record { word = word_of ratio f; achieved = meaning ratio (word_of ratio f) })
   where
-    go : (a b : Bool) (s : Setting) → (cond a (cond b (refused Bounds) s) (refused NotReady)).number ≡ 0 → T a × (cond a (cond b (refused Bounds) s) (refused NotReady) ≡ s)
-    go true true s h = absurd (omega arith)
-    go true false s h = (tt, refl)
-    go false b s h = absurd (omega arith)
+    judged : Bool → Bool → Setting → Result Setting Refusal
+    judged a b made = cond a (cond b (Err Bounds) (Ok made)) (Err NotReady)
 
-pub word_mono : (ratio f g : Float) → (setting_of ratio f).number ≡ 0 → (setting_of ratio g).number ≡ 0 → T (le f g) → (setting_of ratio f).word ≤ (setting_of ratio g).word
-word_mono ratio f g x y l =
-    let a = accepted ratio f x in
-    let b = accepted ratio g y in
+    go : (a b : Bool) (made : Setting) → judged a b made ≡ Ok s → T a × (s ≡ made)
+    go true true made h = absurd (cc)
+    go true false made h = (tt, cc)
+    go false b made h = absurd (cc)
+
+pub word_mono : (ratio f g : Float) (s t : Setting) → setting_of ratio f ≡ Ok s → setting_of ratio g ≡ Ok t → T (le f g) → s.word ≤ t.word
+word_mono ratio f g s t x y l =
+    let a = accepted ratio f s x in
+    let b = accepted ratio g t y in
     rw (a.1, b.1) (product_mono 32 f g ratio (ready_positive ratio a.0) l)

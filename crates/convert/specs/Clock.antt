@@ -1,8 +1,9 @@
 -- Document 01, clock. Definitions only.
-use Rattle.std.specs.Prelude.{ℕ, Bool, ◌&&◌, cond, leb, eqb, Float}
+use Rattle.std.specs.Prelude.{ℕ, Bool, ◌&&◌, cond, leb, eqb, Float, Result, Ok, Err}
 use Rattle.std.specs.Float.Ieee.{le}
 use Rattle.convert.specs.declared.clock.Clock.{Clock}
-use Rattle.registers.specs.Answers.{Ok, Bounds}
+use Rattle.registers.specs.declared.refusal.Refusal.{Refusal}
+use Rattle.registers.specs.declared.refusal.Refusal.TheVariants.{Bounds}
 use Rattle.binary32.specs.Floats.{whole, ◌times◌, ◌over◌, within}
 
 -- multiplier times reference, one rounding
@@ -24,12 +25,10 @@ vco_high_of system = cond (le (whole 200000000) system) 1 0
 abbrev pub ratio_of : Float → Float
 ratio_of system = whole 4294967296 over system
 
-abbrev pub refused_clock : ℕ → Clock
-refused_clock n = record { number = n; system = whole 0; vco = 0; ratio = whole 0 }
-
-abbrev pub clock_of : Float → ℕ → Clock
+-- Bounds exactly if not allowed
+abbrev pub clock_of : Float → ℕ → Result Clock Refusal
 clock_of reference multiplier =
     let system = system_of reference multiplier in
     cond (allowed reference multiplier)
-    (record { number = Ok; system = system; vco = vco_high_of system; ratio = ratio_of system })
-    (refused_clock Bounds)
+    (Ok (record { system = system; vco = vco_high_of system; ratio = ratio_of system }))
+    (Err Bounds)

@@ -1,10 +1,9 @@
 -- Document 01, frequency, on a driver's ratio. Definitions only.
-use Rattle.std.specs.Prelude.{ℕ, Bool, ◌||◌, cond, Float}
+use Rattle.std.specs.Prelude.{ℕ, Bool, ◌||◌, cond, Float, Result, Ok, Err}
 use Rattle.std.specs.Float.Ieee.{lt, to_unsigned}
 use Rattle.convert.specs.declared.Setting.{Setting}
-use Rattle.convert.specs.declared.Reading.{Reading}
-use Rattle.convert.specs.Results.{refused, set, unread, read}
-use Rattle.registers.specs.Answers.{Bounds, NotReady}
+use Rattle.registers.specs.declared.refusal.Refusal.{Refusal}
+use Rattle.registers.specs.declared.refusal.Refusal.TheVariants.{Bounds, NotReady}
 use Rattle.binary32.specs.Floats.{whole, ◌times◌, ◌over◌, within}
 
 -- NotReady where the ratio is NaN, below 8 or above 4295
@@ -27,11 +26,11 @@ word_of ratio frequency = to_unsigned 32 (frequency times ratio)
 abbrev pub meaning : Float → ℕ → Float
 meaning ratio word = whole word over ratio
 
-abbrev pub setting_of : Float → Float → Setting
+abbrev pub setting_of : Float → Float → Result Setting Refusal
 setting_of ratio frequency =
     cond (ready ratio)
-    (cond (outside (limit_of ratio) frequency) (refused Bounds) (set (word_of ratio frequency) (meaning ratio (word_of ratio frequency))))
-    (refused NotReady)
+    (cond (outside (limit_of ratio) frequency) (Err Bounds) (Ok (record { word = word_of ratio frequency; achieved = meaning ratio (word_of ratio frequency) })))
+    (Err NotReady)
 
-abbrev pub reading_of : Float → ℕ → Reading
-reading_of ratio word = cond (ready ratio) (read (meaning ratio word)) (unread NotReady)
+abbrev pub reading_of : Float → ℕ → Result Float Refusal
+reading_of ratio word = cond (ready ratio) (Ok (meaning ratio word)) (Err NotReady)

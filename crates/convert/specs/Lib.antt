@@ -1,4 +1,3 @@
-pub mod Results
 pub mod Clock
 pub mod Frequency
 pub mod Phase

@@ -1,10 +1,9 @@
 -- Document 01, phase. Definitions only.
-use Rattle.std.specs.Prelude.{ℕ, ◌%◌, cond, Float}
+use Rattle.std.specs.Prelude.{ℕ, ◌%◌, cond, Float, Result, Ok, Err}
 use Rattle.std.specs.Float.Ieee.{to_unsigned}
 use Rattle.convert.specs.declared.Setting.{Setting}
-use Rattle.convert.specs.declared.Reading.{Reading}
-use Rattle.convert.specs.Results.{set, unread, read}
-use Rattle.registers.specs.Answers.{Word}
+use Rattle.registers.specs.declared.refusal.Refusal.{Refusal}
+use Rattle.registers.specs.declared.refusal.Refusal.TheVariants.{Word}
 use Rattle.registers.specs.Registers.{CPOW0, holds}
 use Rattle.binary32.specs.Floats.{whole, ◌times◌, ◌over◌}
 
@@ -16,9 +15,9 @@ word_of phase = to_unsigned 16 (phase times whole 16384) % 16384
 abbrev pub meaning : ℕ → Float
 meaning word = whole (word % 16384) over whole 16384
 
--- never Bounds
+-- never refused
 abbrev pub setting_of : Float → Setting
-setting_of phase = set (word_of phase) (whole (word_of phase) over whole 16384)
+setting_of phase = record { word = word_of phase; achieved = whole (word_of phase) over whole 16384 }
 
-abbrev pub reading_of : ℕ → Reading
-reading_of word = cond (holds CPOW0 word) (read (meaning word)) (unread Word)
+abbrev pub reading_of : ℕ → Result Float Refusal
+reading_of word = cond (holds CPOW0 word) (Ok (meaning word)) (Err Word)

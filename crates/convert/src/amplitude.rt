@@ -2,9 +2,10 @@
 ghost use Rattle.std.specs.Prelude.{◌≡◌};
 ghost use Rattle.convert.specs.Amplitude.{asf_of, meaning, setting_of, reading_of};
 
-use crate::{Reading, Setting};
+use crate::Setting;
 use bitfields::acr;
-use registers::{address, answer, field};
+use registers::refusal::Refusal;
+use registers::{address, field};
 
 // The amplitude scale factor of an amplitude.
 pub fn scale(amplitude: f32) -> u32
@@ -18,29 +19,30 @@ pub fn scale(amplitude: f32) -> u32
 pub fn meaning(acr: u32) -> f32
     ensures { result ≡ meaning acr }
 {
-    if field::get(acr, acr::MULTIPLIER) == 0 {
+    if acr::MULTIPLIER.get(acr) == 0 {
         return 1.0;
     }
-    binary32::nearest(field::get(acr, acr::ASF)) / 1024.0
+    binary32::nearest(acr::ASF.get(acr)) / 1024.0
 }
 
 // The ACR of an amplitude, and the amplitude that it achieves.
-pub fn set(amplitude: f32) -> Setting
+#[tactic(auto, using(crate::proofs::Literals::literals, crate::proofs::Achieved::word_given, crate::proofs::Achieved::word_meaning))]
+pub fn set(amplitude: f32) -> Result<Setting, Refusal>
     ensures { result ≡ setting_of amplitude }
 {
-    if binary32::within(0.0, amplitude, 1.0) {
-        let acr = acr::of(scale(amplitude));
-        return crate::set(acr.value, meaning(acr.value));
+    if !binary32::within(0.0, amplitude, 1.0) {
+        return Err(Refusal::Bounds);
     }
-    crate::refused(answer::BOUNDS)
+    let word = acr::of(scale(amplitude))?;
+    Ok(Setting {
+        word,
+        achieved: meaning(word),
+    })
 }
 
 // The amplitude of an ACR that was read.
-pub fn read(acr: u32) -> Reading
+pub fn read(acr: u32) -> Result<f32, Refusal>
     ensures { result ≡ reading_of acr }
 {
-    if address::holds(address::ACR, acr) {
-        return crate::read(meaning(acr));
-    }
-    crate::unread(answer::WORD)
+    Ok(meaning(field::raw_in(address::ACR, acr)?))
 }

@@ -2,8 +2,8 @@
 ghost use Rattle.std.specs.Prelude.{◌≡◌};
 ghost use Rattle.convert.specs.Frequency.{ready, outside, meaning, word_of, setting_of, reading_of};
 
-use crate::{Driver, Reading, Setting};
-use registers::answer;
+use crate::{Driver, Setting};
+use registers::refusal::Refusal;
 
 // Whether frequencies can be set and read on a ratio.
 pub fn ready(ratio: f32) -> bool
@@ -19,7 +19,7 @@ fn outside(limit: f32, frequency: f32) -> bool
     frequency < 0.0 || limit < frequency
 }
 
-// What a tuning word means on a ratio, in Hz.
+// What a tuning word means on a ratio, in Hz. Ratio and word stay two parameters: `frequency::meaning` may not change.
 pub fn meaning(ratio: f32, word: u32) -> f32
     ensures { result ≡ meaning ratio word }
 {
@@ -27,27 +27,29 @@ pub fn meaning(ratio: f32, word: u32) -> f32
 }
 
 // The tuning word of a frequency in Hz, and the frequency that it achieves.
-pub fn set(driver: Driver, frequency: f32) -> Setting
+pub fn set(driver: Driver, frequency: f32) -> Result<Setting, Refusal>
     ensures { result ≡ setting_of driver.ratio frequency }
 {
-    let ratio = driver.ratio;
-    if ready(ratio) {
-        if outside(4294967296.0 / ratio, frequency) {
-            return crate::refused(answer::BOUNDS);
-        }
-        let word = binary32::cut(frequency * ratio);
-        return crate::set(word, meaning(ratio, word));
+    if !ready(driver.ratio) {
+        return Err(Refusal::NotReady);
     }
-    crate::refused(answer::NOT_READY)
+    if outside(4294967296.0 / driver.ratio, frequency) {
+        return Err(Refusal::Bounds);
+    }
+    let word = binary32::cut(frequency * driver.ratio);
+    Ok(Setting {
+        word,
+        achieved: meaning(driver.ratio, word),
+    })
 }
 
 // The frequency of a CFTW0 that was read.
-pub fn read(driver: Driver, word: u32) -> Reading
+pub fn read(driver: Driver, word: u32) -> Result<f32, Refusal>
     ensures { result ≡ reading_of driver.ratio word }
 {
-    let ratio = driver.ratio;
-    if ready(ratio) {
-        return crate::read(meaning(ratio, word));
+    if ready(driver.ratio) {
+        Ok(meaning(driver.ratio, word))
+    } else {
+        Err(Refusal::NotReady)
     }
-    crate::unread(answer::NOT_READY)
 }

@@ -2,8 +2,9 @@
 ghost use Rattle.std.specs.Prelude.{◌≡◌};
 ghost use Rattle.convert.specs.Phase.{meaning, setting_of, reading_of};
 
-use crate::{Reading, Setting};
-use registers::{address, answer};
+use crate::Setting;
+use registers::refusal::Refusal;
+use registers::{address, field};
 
 // What a CPOW0 means, in turns.
 pub fn meaning(word: u32) -> f32
@@ -17,15 +18,15 @@ pub fn set(phase: f32) -> Setting
     ensures { result ≡ setting_of phase }
 {
     let word = binary32::cut16(phase * 16384.0) % 16384;
-    crate::set(word, meaning(word))
+    Setting {
+        word,
+        achieved: meaning(word),
+    }
 }
 
-// The phase of a CPOW0 that was read.
-pub fn read(word: u32) -> Reading
+// The phase of a CPOW0 that was read. It differs from an amplitude's `read` in its register and its meaning, that is in all it says.
+pub fn read(word: u32) -> Result<f32, Refusal>
     ensures { result ≡ reading_of word }
 {
-    if address::holds(address::CPOW0, word) {
-        return crate::read(meaning(word));
-    }
-    crate::unread(answer::WORD)
+    Ok(meaning(field::raw_in(address::CPOW0, word)?))
 }

@@ -19,53 +19,52 @@ use lib.Dec.{T}
 use lib.Ieee.{Float}
 use lib.ListN.{length, get_or}
 use lib.Seq.{get_or-set_other}
+use Rattle.std.specs.Prelude.{Result, Option, Some, None, Ok, Err}
 use Rattle.registers.proofs.Choice.{by}
-use Rattle.registers.specs.Answers.{Ok, Interface, Word}
+use Rattle.registers.specs.declared.refusal.Refusal.{Refusal}
+use Rattle.registers.specs.declared.refusal.Refusal.TheVariants.{Interface, Word}
 use Rattle.registers.specs.Registers.{CSR, holds}
 use Rattle.bitfields.specs.Csr.{byte_of}
 use Rattle.bus.specs.declared.Action.{Action}
 use Rattle.bus.specs.declared.Action.TheVariants.{Write}
 use Rattle.bus.specs.declared.Reply.{Reply}
 use Rattle.bus.specs.Bus.{fault_of}
-use Rattle.bus.specs.Sequence.{shown, action, after, acts, writes}
-use Rattle.bus.proofs.Runs.{good, failed, hands_nothing, in_time, fault_ends}
+use Rattle.bus.specs.Sequence.{shown, action, answer, after, ends, acts, writes}
+use Rattle.bus.proofs.Runs.{good, failed, judges, refuses, goes_on, ends_it, answer_ends, hands_nothing, in_time}
 use Rattle.image.specs.Image.{reaches, give, selected, select, apply}
 use Rattle.image.proofs.Images.{give_stays, selected_select}
 use Rattle.driver.specs.declared.channel.Access.{Access}
 use Rattle.driver.specs.declared.channel.Access.TheVariants.{Set, Get}
 use Rattle.driver.specs.declared.channel.Transfer.{Transfer}
-use Rattle.driver.specs.declared.channel.Transferred.{Transferred}
-use Rattle.driver.proofs.Channels.{follows, in_range, faulty, moved, done, carries, legal_at}
-use Rattle.driver.specs.Channel.{entry, table, legal, at, sequence, action_of, word_of, meaning_of, replied, reply_of}
+use Rattle.driver.proofs.Channels.{in_range, legal_at}
+use Rattle.driver.specs.Channel.{entry, table, legal, at, plan, word_of, meaning_of}
+use Rattle.driver.specs.ChannelLaws.{follows}
 
 -- a value that comes back with the second reply counts only where the register is read
 abbrev pub Held : ℕ → Access → ℕ → Type 0
 Held register (Set word) v = Unit {0}
 Held register Get v = holds register v ≡ true
 
--- the answer to a reply that comes after a good one
-abbrev pub then : Transfer → ℕ → Reply → Transferred
-then s u r = reply_of (reply_of s (good u)).sequence r
+-- what a reply brings, and the record after it
+abbrev pub Brings : Transfer → Reply → Result (Option Float) Refusal → Transfer → Type 0
+Brings s r x next = (answer plan s r ≡ x) × (after plan s r ≡ next)
 
-abbrev pub succeeded : Float → Transfer → Transferred
-succeeded a s = record { number = Ok; done = true; value = a; sequence = s }
+-- the same of a reply that comes after a good one
+abbrev pub Then : Transfer → ℕ → Reply → Result (Option Float) Refusal → Transfer → Type 0
+Then s u r x next = Brings (after plan s (good u)) r x next
 
 -- the second action is handed out with the first reply, where that did not fail
 abbrev pub second : Transfer → List Reply → List Action
 second s [] = []
 second s (r ∷ rs) = cond r.failed [] (entry s.register s.access ∷ [])
 
-entry_good : (register : ℕ) (access : Access) (v : ℕ) → Held register access v → Ok ≡ fault_of (entry register access) (good v)
+entry_good : (register : ℕ) (access : Access) (v : ℕ) → Held register access v → fault_of (Some (entry register access)) (good v) ≡ Ok tt
 entry_good register (Set word) v h = refl
 entry_good register Get v h = rw h
 
-entry_failed : (register : ℕ) (access : Access) (v : ℕ) → Interface ≡ fault_of (entry register access) (failed v)
+entry_failed : (register : ℕ) (access : Access) (v : ℕ) → fault_of (Some (entry register access)) (failed v) ≡ Err Interface
 entry_failed register (Set word) v = refl
 entry_failed register Get v = refl
-
-entry_shown : (register : ℕ) (access : Access) → shown (entry register access) ≡ entry register access ∷ []
-entry_shown register (Set word) = refl
-entry_shown register Get = refl
 
 -- what the second action makes of an image
 abbrev pub given : Access → ℕ → ℕ → List ℕ → List ℕ
@@ -90,49 +89,58 @@ chip_stays s [] image j t = refl
 chip_stays s (r ∷ rs) image j t = by (λ (l : List ℕ). get_or l j 0 ≡ get_or image j 0) r.failed (λ _. refl) (λ _. given_stays s.access s.mask s.register image j t)
 
 module _ (s : Transfer) (k : legal s ≡ true) (f : s.step ≡ 0) where
-  pub first_action : action_of s ≡ Write CSR (byte_of s.mode s.mask)
+  pub first_action : action plan s ≡ Some (Write CSR (byte_of s.mode s.mask))
   unfolding action
   first_action = rw (k, f)
 
-  second_action : action_of (at s 1) ≡ entry s.register s.access
+  second_action : action plan (at s 1) ≡ Some (entry s.register s.access)
   unfolding action
   second_action = rw (legal_at s 1, k)
 
   -- ---- its replies
 
-  pub first_good : (u : ℕ) → reply_of s (good u) ≡ replied Ok (at s 1)
-  first_good u = sym (moved s (good u) (sym first_action) refl refl f)
+  pub first_good : (u : ℕ) → Brings s (good u) (Ok None) (at s 1)
+  first_good u =
+      let e : fault_of (action plan s) (good u) ≡ Ok tt = rw first_action refl in
+      let x : plan.judge s u ≡ Ok None = rw f refl in
+      (judges plan s (good u) e ∙ x, goes_on plan s (good u) e (ap ends x) ∙ rw f refl)
 
-  pub first_failed : (v : ℕ) → reply_of s (failed v) ≡ replied Interface (at s 2)
-  first_failed v = sym (faulty s (failed v) (sym first_action) refl (λ e. omega arith) (λ e. omega arith))
+  pub first_failed : (v : ℕ) → Brings s (failed v) (Err Interface) (at s 2)
+  first_failed v =
+      let x = refuses plan s (failed v) Interface (rw first_action refl) in
+      (x, ends_it plan s (failed v) (_, first_action) (ap ends x))
 
-  pub second_good : (u v : ℕ) → Held s.register s.access v → then s u (good v) ≡ succeeded (meaning_of s.register s.ratio (word_of s.access v)) (at s 2)
-  second_good u v h = rw (first_good u) (sym (done (at s 1) (good v) (sym second_action) (entry_good s.register s.access v h) refl (λ e. omega arith)))
+  -- what ends it at the second action
+  last : (u : ℕ) (r : Reply) (x : Result (Option Float) Refusal) → answer plan (at s 1) r ≡ x → ends x ≡ true → Then s u r x (at s 2)
+  last u r x e t = rw (first_good u).1 (e, ends_it plan (at s 1) r (_, second_action) (rw e t))
 
-  pub second_failed : (u v : ℕ) → then s u (failed v) ≡ replied Interface (at s 2)
-  second_failed u v = rw (first_good u) (sym (faulty (at s 1) (failed v) (sym second_action) (entry_failed s.register s.access v) (λ e. omega arith) (λ e. omega arith)))
+  pub second_good : (u v : ℕ) → Held s.register s.access v → Then s u (good v) (Ok (Some (meaning_of s.register s.ratio (word_of s.access v)))) (at s 2)
+  second_good u v h = last u (good v) _ (judges plan (at s 1) (good v) (rw second_action (entry_good s.register s.access v h))) refl
 
-  pub second_wide : s.access ≡ Get → (u v : ℕ) → holds s.register v ≡ false → then s u (good v) ≡ replied Word (at s 2)
-  second_wide e u v h = rw (first_good u) (sym (faulty (at s 1) (good v) (sym second_action) (rw (e, h)) (λ z. omega arith) (λ z. omega arith)))
+  pub second_failed : (u v : ℕ) → Then s u (failed v) (Err Interface) (at s 2)
+  second_failed u v = last u (failed v) (Err Interface) (refuses plan (at s 1) (failed v) Interface (rw second_action (entry_failed s.register s.access v))) refl
+
+  pub second_wide : s.access ≡ Get → (u v : ℕ) → holds s.register v ≡ false → Then s u (good v) (Err Word) (at s 2)
+  second_wide e u v h = last u (good v) (Err Word) (refuses plan (at s 1) (good v) Word (rw (second_action, e, h) refl)) refl
 
   -- ---- what is handed out
 
-  rest : (rs : List Reply) → acts sequence (at s 1) rs ≡ entry s.register s.access ∷ []
-  rest [] = rw (second_action, entry_shown)
-  rest (r ∷ rs) = rw (hands_nothing sequence (after sequence (at s 1) r) rs (in_time sequence 2 (λ s vs. table s) follows (at s 1) (r ∷ []) (omega arith)), second_action, entry_shown)
+  rest : (rs : List Reply) → acts plan (at s 1) rs ≡ entry s.register s.access ∷ []
+  rest [] = rw second_action
+  rest (r ∷ rs) = rw (hands_nothing plan (after plan (at s 1) r) rs (in_time plan (λ s vs. table s) follows (at s 1) (r ∷ []) (omega arith)), second_action)
 
-  pub exactly : (rs : List Reply) → acts sequence s rs ≡ Write CSR (byte_of s.mode s.mask) ∷ second s rs
+  pub exactly : (rs : List Reply) → acts plan s rs ≡ Write CSR (byte_of s.mode s.mask) ∷ second s rs
   exactly [] = rw first_action
-  exactly (r ∷ rs) = ap (λ (l : List Action). shown (action_of s) ++ l) (go r.failed r.value) ∙ rw first_action
+  exactly (r ∷ rs) = ap (λ (l : List Action). shown (action plan s) ++ l) (go r.failed r.value) ∙ rw first_action
     where
-      go : (b : Bool) (v : ℕ) → acts sequence (after sequence s (record { failed = b; value = v })) rs ≡ cond b [] (entry s.register s.access ∷ [])
-      go true v = hands_nothing sequence (after sequence s (failed v)) rs (fault_ends sequence 2 (λ s vs. table s) follows s (failed v) (λ e. omega (arith, rw first_action at e)))
-      go false v = rw (← carries s (good v), first_good v) (rest rs)
+      go : (b : Bool) (v : ℕ) → acts plan (after plan s (record { failed = b; value = v })) rs ≡ cond b [] (entry s.register s.access ∷ [])
+      go true v = hands_nothing plan (after plan s (failed v)) rs (answer_ends plan (λ s vs. table s) follows s (failed v) (ap ends (first_failed v).0))
+      go false v = rw (first_good v).1 (rest rs)
 
-  pub whole_table : (u v : ℕ) → acts sequence s (good u ∷ good v ∷ []) ≡ table s
+  pub whole_table : (u v : ℕ) → acts plan s (good u ∷ good v ∷ []) ≡ table s
   whole_table u v = exactly (good u ∷ good v ∷ [])
 
-  pub nothing_more : (rs : List Reply) (v : ℕ) (more : List Reply) → acts sequence s (rs ++ failed v ∷ more) ≡ acts sequence s rs
+  pub nothing_more : (rs : List Reply) (v : ℕ) (more : List Reply) → acts plan s (rs ++ failed v ∷ more) ≡ acts plan s rs
   nothing_more [] v more = exactly (failed v ∷ more) ∙ sym (exactly [])
   nothing_more (r ∷ rs) v more = exactly (r ∷ rs ++ failed v ∷ more) ∙ sym (exactly (r ∷ rs))
 
@@ -142,7 +150,7 @@ module _ (s : Transfer) (k : legal s ≡ true) (f : s.step ≡ 0) where
     abbrev selects : List ℕ
     selects = select s.mode s.mask image
 
-    pub on_chip : (rs : List Reply) → apply (writes (acts sequence s rs)) image ≡ chip s rs selects
+    pub on_chip : (rs : List Reply) → apply (writes (acts plan s rs)) image ≡ chip s rs selects
     on_chip [] = rw (exactly [])
     on_chip (r ∷ rs) = rw (exactly (r ∷ rs)) (go r.failed)
       where
@@ -150,18 +158,18 @@ module _ (s : Transfer) (k : legal s ≡ true) (f : s.step ≡ 0) where
         go true = refl
         go false = let g = in_range s k in entry_gives s.access s.mask s.register selects g.2 (selected_select s.mode s.mask image i g.0)
 
-    pub get_selects : s.access ≡ Get → (rs : List Reply) → apply (writes (acts sequence s rs)) image ≡ selects
+    pub get_selects : s.access ≡ Get → (rs : List Reply) → apply (writes (acts plan s rs)) image ≡ selects
     get_selects e [] = on_chip []
     get_selects e (r ∷ rs) = on_chip (r ∷ rs) ∙ rw e (by (λ (l : List ℕ). l ≡ selects) r.failed (λ _. refl) (λ _. refl))
 
-    pub unanswered_selects : apply (writes (acts sequence s [])) image ≡ selects
+    pub unanswered_selects : apply (writes (acts plan s [])) image ≡ selects
     unanswered_selects = on_chip []
 
-    pub failed_selects : (v : ℕ) (rs : List Reply) → apply (writes (acts sequence s (failed v ∷ rs))) image ≡ selects
+    pub failed_selects : (v : ℕ) (rs : List Reply) → apply (writes (acts plan s (failed v ∷ rs))) image ≡ selects
     failed_selects v rs = on_chip (failed v ∷ rs)
 
-    pub set_gives : (word : ℕ) → s.access ≡ Set word → (v : ℕ) (rs : List Reply) → apply (writes (acts sequence s (good v ∷ rs))) image ≡ give s.mask s.register word selects
+    pub set_gives : (word : ℕ) → s.access ≡ Set word → (v : ℕ) (rs : List Reply) → apply (writes (acts plan s (good v ∷ rs))) image ≡ give s.mask s.register word selects
     set_gives word e v rs = on_chip (good v ∷ rs) ∙ rw e
 
-    pub word_stays : (j : ℕ) → j ≢ CSR → T (not (reaches 4 s.mask s.register j)) → (rs : List Reply) → get_or (apply (writes (acts sequence s rs)) image) j 0 ≡ get_or image j 0
+    pub word_stays : (j : ℕ) → j ≢ CSR → T (not (reaches 4 s.mask s.register j)) → (rs : List Reply) → get_or (apply (writes (acts plan s rs)) image) j 0 ≡ get_or image j 0
     word_stays j h t rs = rw (on_chip rs) (chip_stays s rs selects j t ∙ get_or-set_other image CSR j (byte_of s.mode s.mask) 0 h)

@@ -1,9 +1,10 @@
 -- Document 01, channel settings and readings. Definitions only.
-use Rattle.std.specs.Prelude.{ℕ, ◌+◌, Bool, true, false, cond, ◌&&◌, ◌||◌, List, [], ◌∷◌, ltb, eqb, Float}
-use Rattle.registers.specs.Answers.{Ok, NotReady}
+use Rattle.std.specs.Prelude.{ℕ, Bool, true, cond, ◌&&◌, ◌||◌, List, [], ◌∷◌, ltb, eqb, is_ok, Float, Option, Some, None, Result, Ok, Err}
+use Rattle.std.specs.Result.{result_and}
+use Rattle.registers.specs.declared.refusal.Refusal.{Refusal}
+use Rattle.registers.specs.declared.refusal.Refusal.TheVariants.{NotReady}
 use Rattle.registers.specs.Registers.{CSR, CFTW0, CPOW0, ACR, holds}
 use Rattle.bitfields.specs.Csr.{byte_of, csr_of}
-use Rattle.binary32.specs.Floats.{whole}
 use Rattle.convert.specs.declared.Driver.{Driver}
 use Rattle.convert.specs.declared.Setting.{Setting}
 use Rattle.convert.specs.Frequency as frequency
@@ -12,48 +13,49 @@ use Rattle.convert.specs.Amplitude as amplitude
 use Rattle.bus.specs.declared.Action.{Action}
 use Rattle.bus.specs.declared.Action.TheVariants.{Write, Read}
 use Rattle.bus.specs.declared.Reply.{Reply}
-use Rattle.bus.specs.Bus.{fault_of}
 use Rattle.bus.specs.Sequence as bus
 use Rattle.driver.specs.declared.channel.Access.{Access}
 use Rattle.driver.specs.declared.channel.Access.TheVariants.{Set, Get}
 use Rattle.driver.specs.declared.channel.Transfer.{Transfer}
-use Rattle.driver.specs.declared.channel.Transferred.{Transferred}
-use Rattle.driver.specs.declared.channel.Begun.{Begun}
-use Rattle.driver.specs.declared.channel.Begun.TheVariants.{Sequence, Refused}
 
 abbrev pub start : Driver → ℕ → ℕ → Access → Transfer
 start d mask register access = record { step = 0; mode = d.mode; mask = mask; register = register; access = access; ratio = d.ratio }
 
--- Mode, Mask, then the conversion's own number; before any action
-abbrev pub begin_of : Driver → ℕ → ℕ → Access → ℕ → Begun
-begin_of d mask register access number =
-    let csr = (csr_of d.mode mask).number in
-    cond (eqb csr Ok) (cond (eqb number Ok) (Sequence (start d mask register access)) (Refused number)) (Refused csr)
+-- what is done with a register, or the conversion's own refusal
+abbrev pub begun : Driver → ℕ → ℕ → Result Access Refusal → Result Transfer Refusal
+begun d mask register (Ok access) = Ok (start d mask register access)
+begun d mask register (Err refusal) = Err refusal
+
+-- Mode, Mask, then the conversion's own refusal; before any action
+abbrev pub begin_of : Driver → ℕ → ℕ → Result Access Refusal → Result Transfer Refusal
+begin_of d mask register access = result_and (csr_of d.mode mask) (begun d mask register access)
 
 -- ---- settings
 
-abbrev setting_of : Driver → ℕ → ℕ → Setting → Begun
-setting_of d mask register s = begin_of d mask register (Set s.word) s.number
+-- the word of a setting is written
+abbrev pub writes : Result Setting Refusal → Result Access Refusal
+writes (Ok s) = Ok (Set s.word)
+writes (Err refusal) = Err refusal
 
-abbrev pub set_frequency : Driver → ℕ → Float → Begun
-set_frequency d mask f = setting_of d mask CFTW0 (frequency.setting_of d.ratio f)
+abbrev pub set_frequency : Driver → ℕ → Float → Result Transfer Refusal
+set_frequency d mask f = begin_of d mask CFTW0 (writes (frequency.setting_of d.ratio f))
 
-abbrev pub set_phase : Driver → ℕ → Float → Begun
-set_phase d mask p = setting_of d mask CPOW0 (phase.setting_of p)
+abbrev pub set_phase : Driver → ℕ → Float → Result Transfer Refusal
+set_phase d mask p = begin_of d mask CPOW0 (Ok (Set (phase.setting_of p).word))
 
-abbrev pub set_amplitude : Driver → ℕ → Float → Begun
-set_amplitude d mask a = setting_of d mask ACR (amplitude.setting_of a)
+abbrev pub set_amplitude : Driver → ℕ → Float → Result Transfer Refusal
+set_amplitude d mask a = begin_of d mask ACR (writes (amplitude.setting_of a))
 
 -- ---- readings
 
-abbrev pub get_frequency : Driver → ℕ → Begun
-get_frequency d mask = begin_of d mask CFTW0 Get (cond (frequency.ready d.ratio) Ok NotReady)
+abbrev pub get_frequency : Driver → ℕ → Result Transfer Refusal
+get_frequency d mask = begin_of d mask CFTW0 (cond (frequency.ready d.ratio) (Ok Get) (Err NotReady))
 
-abbrev pub get_phase : Driver → ℕ → Begun
-get_phase d mask = begin_of d mask CPOW0 Get Ok
+abbrev pub get_phase : Driver → ℕ → Result Transfer Refusal
+get_phase d mask = begin_of d mask CPOW0 (Ok Get)
 
-abbrev pub get_amplitude : Driver → ℕ → Begun
-get_amplitude d mask = begin_of d mask ACR Get Ok
+abbrev pub get_amplitude : Driver → ℕ → Result Transfer Refusal
+get_amplitude d mask = begin_of d mask ACR (Ok Get)
 
 -- ---- the sequence
 
@@ -76,21 +78,10 @@ takes register Get = true
 
 -- a mode, mask, register, value or ratio out of range counts as ended
 unfoldable pub legal : Transfer → Bool
-legal s = eqb (csr_of s.mode s.mask).number Ok && own s.register s.ratio && takes s.register s.access
+legal s = is_ok (csr_of s.mode s.mask) && own s.register s.ratio && takes s.register s.access
 
 abbrev pub at : Transfer → ℕ → Transfer
 at s step = record { step = step; mode = s.mode; mask = s.mask; register = s.register; access = s.access; ratio = s.ratio }
-
-abbrev pub sequence : bus.Sequence Transfer
-sequence = record { legal = legal; step = λ s. s.step; table = table; stops = λ s v. false; onward = λ s v. at s (s.step + 1); ended = λ s. at s 2 }
-
-abbrev pub action_of : Transfer → Action
-action_of = bus.action sequence
-
--- what is handed out of what was begun, for any list of replies: nothing of a refusal
-abbrev pub handed : Begun → List Reply → List Action
-handed (Sequence s) rs = bus.acts sequence s rs
-handed (Refused n) rs = []
 
 -- ---- the result
 
@@ -102,14 +93,14 @@ word_of Get v = v
 abbrev pub meaning_of : ℕ → Float → ℕ → Float
 meaning_of register ratio word = cond (eqb register CFTW0) (frequency.meaning ratio word) (cond (eqb register CPOW0) (phase.meaning word) (amplitude.meaning word))
 
-abbrev pub replied : ℕ → Transfer → Transferred
-replied n s = record { number = n; done = false; value = whole 0; sequence = s }
+-- with the good reply to the second action comes what the register's word means
+abbrev pub judge : Transfer → ℕ → Result (Option Float) Refusal
+judge s v = Ok (cond (eqb s.step 1) (Some (meaning_of s.register s.ratio (word_of s.access v))) None)
 
--- with the good reply to the second action comes what the register's word means; else zero
-unfoldable pub reply_of : Transfer → Reply → Transferred
-reply_of s r =
-    let fault = fault_of (action_of s) r in
-    let next = bus.after sequence s r in
-    cond (eqb fault Ok && eqb s.step 1)
-    (record { number = Ok; done = true; value = meaning_of s.register s.ratio (word_of s.access r.value); sequence = next })
-    (replied fault next)
+abbrev pub plan : bus.Plan Transfer Float
+plan = record { legal = legal; step = λ s. s.step; table = table; judge = judge; onward = λ s v. at s (bus.next s.step); ended = λ s. at s 2 }
+
+-- what is handed out of what was begun, for any list of replies: nothing of a refusal
+abbrev pub handed : Result Transfer Refusal → List Reply → List Action
+handed (Ok s) rs = bus.acts plan s rs
+handed (Err refusal) rs = []

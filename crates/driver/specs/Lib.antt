@@ -1,3 +1,5 @@
-pub mod Driver
 pub mod Channel
+pub mod ChannelLaws
+pub mod Driver
 pub mod Register
+pub mod RegisterLaws

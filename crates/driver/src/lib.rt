@@ -5,18 +5,17 @@ ghost use Rattle.std.specs.Prelude.{◌≡◌};
 ghost use Rattle.driver.specs.Driver.{freeze_of};
 
 use convert::Driver;
-use registers::answer;
-use registers::answer::Answer;
+use registers::refusal::Refusal;
 
 pub mod channel;
 pub mod register;
 
 // The mode, for profiles that are streamed to the chip.
-pub fn freeze(driver: Driver) -> Answer
+pub fn freeze(driver: Driver) -> Result<u32, Refusal>
     ensures { result ≡ freeze_of driver }
 {
     if 3 < driver.mode {
-        return answer::refused(answer::MODE);
+        return Err(Refusal::Mode);
     }
-    answer::accepted(driver.mode)
+    Ok(driver.mode)
 }

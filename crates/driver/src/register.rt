@@ -1,79 +1,65 @@
 // Reading CSR or FR1.
 ghost use Rattle.std.specs.Prelude.{◌≡◌};
 ghost use Rattle.registers.specs.Registers.{CSR, FR1};
-ghost use Rattle.driver.specs.Register.{start, action_of, reply_of};
+ghost use Rattle.driver.specs.Register.{start, plan};
+ghost use Rattle.driver.specs.RegisterLaws.{follows};
 
-use bus::{Action, Reply};
-use registers::{address, answer};
+use bus::{Action, Sequence};
+use registers::address;
+use registers::refusal::Refusal;
 
-#[derive(Clone, Copy)]
+// The step stays a number, by which its table is read: a record made by hand may have any, as `Plan` has it.
+#[derive(Clone, Copy, Debug, PartialEq, Eq)]
 pub struct Register {
     pub step: u32,
     pub address: u32,
 }
 
-// A number, whether the register has been read, its value, and the sequence.
-#[derive(Clone, Copy)]
-pub struct Found {
-    pub number: u32,
-    pub done: bool,
-    pub value: u32,
-    pub sequence: Register,
+fn start(address: u32) -> Register
+    ensures { result ≡ start address }
+{
+    Register { step: 0, address }
 }
 
 pub fn csr() -> Register
     ensures { result ≡ start CSR }
 {
-    Register {
-        step: 0,
-        address: address::CSR,
-    }
+    start(address::CSR)
 }
 
 pub fn fr1() -> Register
     ensures { result ≡ start FR1 }
 {
-    Register {
-        step: 0,
-        address: address::FR1,
-    }
+    start(address::FR1)
 }
 
-#[tactic(auto, unfolding(bus::specs::Sequence::action))]
-pub fn action(sequence: Register) -> Action
-    ensures { result ≡ action_of sequence }
-{
-    if 0 < sequence.step {
-        return Action::Nothing;
-    }
-    if 1 < sequence.address {
-        return Action::Nothing;
-    }
-    Action::Read(sequence.address)
-}
+impl Sequence for Register {
+    // What was read.
+    type Output = u32;
 
-#[tactic(auto, using(bus::proofs::Runs::answered), unfolding(crate::specs::Register::reply_of, bus::specs::Sequence::after))]
-pub fn reply(sequence: Register, reply: Reply) -> Found
-    ensures { result ≡ reply_of sequence reply }
-{
-    let number = bus::fault(action(sequence), reply);
-    if number == answer::OVER {
-        return Found {
-            number,
-            done: false,
-            value: 0,
-            sequence,
-        };
+    ghost plan = { plan };
+
+    ghost table_of = { λ s vs. plan.table s };
+
+    ghost laws = { follows };
+
+    #[tactic(auto, unfolding(bus::specs::Sequence::action))]
+    fn action(&self) -> Option<Action> {
+        if 0 < self.step || 1 < self.address {
+            return None;
+        }
+        Some(Action::Read(self.address))
     }
-    let over = Register {
-        step: 1,
-        address: sequence.address,
-    };
-    let done = number == answer::OK;
-    Found {
-        number,
-        done,
-        value: if done { reply.value } else { 0 },
-        sequence: over,
+
+    fn judge(&self, value: u32) -> Result<Option<u32>, Refusal> {
+        Ok(Some(value))
+    }
+
+    fn onward(&mut self, _value: u32) {
+        self.step = self.step.saturating_add(1);
+    }
+
+    fn end(&mut self) {
+        self.step = 1;
     }
 }

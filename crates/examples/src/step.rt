@@ -1,106 +1,65 @@
 // A line for each step of a profile: what was asked, the answer, and the length.
-use crate::say;
-use profile::{ProfileSerializer as Profile, Tuning, Value};
-use registers::answer;
+use profile::{ProfileSerializer, Push};
+use registers::refusal::{self, Refusal};
 use std::io;
 
-fn tuning(rt: &impl Print, at: usize, t: Tuning) -> io::Result<usize> {
-    let Tuning::Tune(z) = t else {
-        return Ok(at);
-    };
-    let bits = profile::bits(z);
-    if z < 0 {
-        return say::decimal(rt, at, b" word -", (0xffff_ffff - bits) as u64 + 1);
-    }
-    say::hex(rt, at, b" word 0x", bits, 8)
+// What was asked, in 54 columns, and the answer; a refusal too has a length, the one that stays.
+fn line<T>(
+    rt: &HostRuntime,
+    asked: &str,
+    answer: &Result<T, Refusal>,
+    length: usize,
+) -> io::Result<()> {
+    let number = refusal::number(answer);
+    let name = refusal::name(answer);
+    println!(rt; "{asked:<54}{number} {name:<6}length {length:>2}")
 }
 
-fn value(rt: &impl Print, at: usize, before: &[u8], v: Value, digits: usize) -> io::Result<usize> {
-    match v {
-        Value::Given(n) => say::hex(rt, at, before, n, digits),
-        Value::Absent => Ok(at),
-    }
+/// A serializer for a mode, with its example's number in front.
+pub fn begin(rt: &HostRuntime, head: &str, mode: u32) -> io::Result<ProfileSerializer> {
+    let new = ProfileSerializer::new(mode);
+    let asked = format!(in rt.alloc(); "{head}mode {mode}")?;
+    line(rt, asked.as_str(), &new, 0)?;
+    new.map_err(|_| io::Error::from(io::ErrorKind::InvalidInput))
 }
 
-// The rest of a line; a refusal too has a length, the one that stays.
-fn outcome(rt: &impl Print, at: usize, number: u32, length: usize) -> io::Result<()> {
-    say::text(rt, say::answer(rt, at, 54, number)?, b"length ")?;
-    if length < 10 {
-        say::text(rt, 0, b" ")?;
+fn asked(rt: &HostRuntime, push: Push) -> io::Result<String> {
+    let mut asked = format!(in rt.alloc(); "    push {}", push.mask)?;
+    match push.word {
+        Some(word) if word < 0 => write!(asked, " word {word}")?,
+        Some(word) => write!(asked, " word 0x{word:08X}")?,
+        None => {}
     }
-    say::decimal(rt, 0, b"", length as u64)?;
-    say::text(rt, 0, b"\n")?;
-    Ok(())
+    if let Some(phase) = push.phase {
+        write!(asked, " phase 0x{phase:04X}")?;
+    }
+    if let Some(acr) = push.acr {
+        write!(asked, " acr 0x{acr:06X}")?;
+    }
+    Ok(asked)
 }
 
-// A serializer for a mode, with its example's number in front.
-pub fn begin(rt: &impl Print, head: &[u8], mode: u32) -> io::Result<Profile> {
-    let n = profile::new(mode);
-    let s = n.serializer;
-    let a = say::decimal(rt, say::text(rt, 0, head)?, b"mode ", mode as u64)?;
-    outcome(rt, a, n.number, s.length)?;
-    Ok(s)
+pub fn push(rt: &HostRuntime, serializer: &mut ProfileSerializer, push: Push) -> io::Result<()> {
+    let answer = serializer.push(push);
+    line(rt, asked(rt, push)?.as_str(), &answer, serializer.length)
 }
 
-pub fn push(
-    rt: &impl Print,
-    s: Profile,
-    mask: u32,
-    word: Tuning,
-    phase: Value,
-    acr: Value,
-) -> io::Result<Profile> {
-    let p = profile::push(s, mask, word, phase, acr);
-    let next = p.serializer;
-    let a = say::decimal(rt, 0, b"    push ", mask as u64)?;
-    let b = value(rt, tuning(rt, a, word)?, b" phase 0x", phase, 4)?;
-    outcome(rt, value(rt, b, b" acr 0x", acr, 6)?, p.number, next.length)?;
-    Ok(next)
-}
-
-fn byte(rt: &impl Print, n: u8) -> io::Result<()> {
-    say::hex(rt, 0, b" ", n as u32, 2)?;
-    Ok(())
-}
-
-fn bytes(rt: &impl Print, s: &[u8], count: usize) -> io::Result<()> {
-    if count == 0 {
-        say::text(rt, 0, b" none")?;
+/// A profile is padded and handed out: its bytes and words.
+pub fn finalize(rt: &HostRuntime, serializer: &mut ProfileSerializer) -> io::Result<()> {
+    // `finalize` fills what it is lent, and no profile takes more than eight words.
+    let mut words = [0u32; 8];
+    let answer = serializer.finalize(&mut words);
+    let length = serializer.length;
+    line(rt, "    finalize", &answer, length)?;
+    let Ok(count) = answer else { return Ok(()) };
+    let none = if count == 0 { " none" } else { "" };
+    print!(rt; "    bytes {none}")?;
+    for byte in serializer.bytes.iter().take(length) {
+        print!(rt; " {byte:02X}")?;
     }
-    for b in s.iter().take(count) {
-        byte(rt, *b)?;
+    print!(rt; "\n    words {none}")?;
+    for word in words.iter().take(count) {
+        print!(rt; " 0x{word:08X}")?;
     }
-    Ok(())
-}
-
-fn words(rt: &impl Print, s: &[u32], count: usize) -> io::Result<()> {
-    if count == 0 {
-        say::text(rt, 0, b" none")?;
-    }
-    for w in s.iter().take(count) {
-        say::hex(rt, 0, b" 0x", *w, 8)?;
-    }
-    Ok(())
-}
-
-// A profile is padded and handed out: its bytes and words.
-pub fn finalize(rt: &impl Print, s: Profile) -> io::Result<()> {
-    let mut room = [0u32; 8];
-    let f = profile::finalize(s, &mut room);
-    let next = f.serializer;
-    let stream = next.bytes;
-    outcome(
-        rt,
-        say::text(rt, 0, b"    finalize")?,
-        f.number,
-        next.length,
-    )?;
-    if f.number == answer::OK {
-        say::text(rt, 0, b"    bytes ")?;
-        bytes(rt, &stream, next.length)?;
-        say::text(rt, 0, b"\n    words ")?;
-        words(rt, &room, f.count)?;
-        say::text(rt, 0, b"\n")?;
-    }
-    Ok(())
+    println!(rt)
 }

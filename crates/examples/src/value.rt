@@ -1,79 +1,87 @@
 // Examples 8 to 11: a line for each value, with what was asked, the answer, the register and what it achieves.
-use crate::say;
-use convert::{Driver, Setting};
-use registers::answer;
+use bitfields::fr1;
+use convert::{Driver, Setting, clock};
+use registers::refusal::{self, Refusal};
 use std::io;
 
-// The rest of a line; a refusal has no register. A tuning word is shown in decimal too.
+// What was asked, in 30 columns, and the answer.
+fn answered<T>(rt: &HostRuntime, asked: &str, answer: &Result<T, Refusal>) -> io::Result<()> {
+    let number = refusal::number(answer);
+    let name = refusal::name(answer);
+    print!(rt; "{asked:<30}{number} {name:<6}")
+}
+
+// The rest of a line; a refusal has no register. An f64 is shown in as many places as these floats have.
 fn setting(
-    rt: &impl Print,
-    at: usize,
-    s: Setting,
-    register: &[u8],
+    rt: &HostRuntime,
+    asked: &str,
+    setting: Result<Setting, Refusal>,
+    register: &str,
     digits: usize,
 ) -> io::Result<()> {
-    let a = say::answer(rt, at, 30, s.number)?;
-    if s.number == answer::OK {
-        let b = say::hex(rt, a, register, s.word, digits)?;
+    answered(rt, asked, &setting)?;
+    if let Ok(Setting { word, achieved }) = setting {
+        print!(rt; "{register} 0x{word:0digits$X}")?;
         if digits == 8 {
-            say::fill(rt, say::decimal(rt, b, b" ", s.word as u64)?, 65)?;
+            print!(rt; " {word:<10}")?;
         }
-        say::float(rt, 0, b"  achieved ", s.achieved)?;
+        print!(rt; "  achieved {}", f64::from(achieved))?;
     }
-    say::text(rt, 0, b"\n")?;
-    Ok(())
+    println!(rt)
 }
 
-pub fn phase(rt: &impl Print, head: &[u8], x: f32) -> io::Result<()> {
-    let a = say::float(rt, say::text(rt, 0, head)?, b"phase ", x)?;
-    setting(rt, a, convert::phase::set(x), b"CPOW0 0x", 4)?;
-    Ok(())
+pub fn phase(rt: &HostRuntime, head: &str, x: f32) -> io::Result<()> {
+    let asked = format!(in rt.alloc(); "{head}phase {}", f64::from(x))?;
+    setting(rt, asked.as_str(), Ok(convert::phase::set(x)), "CPOW0", 4)
 }
 
-pub fn amplitude(rt: &impl Print, head: &[u8], x: f32) -> io::Result<()> {
-    let a = say::float(rt, say::text(rt, 0, head)?, b"amplitude ", x)?;
-    setting(rt, a, convert::amplitude::set(x), b"ACR 0x", 6)?;
-    Ok(())
+pub fn amplitude(rt: &HostRuntime, head: &str, x: f32) -> io::Result<()> {
+    let asked = format!(in rt.alloc(); "{head}amplitude {}", f64::from(x))?;
+    setting(rt, asked.as_str(), convert::amplitude::set(x), "ACR", 6)
 }
 
-fn frequency(rt: &impl Print, driver: Driver, x: f32) -> io::Result<()> {
-    let a = say::float(rt, 0, b"    frequency ", x)?;
-    setting(rt, a, convert::frequency::set(driver, x), b"CFTW0 0x", 8)?;
-    Ok(())
+fn frequency(rt: &HostRuntime, driver: Driver, x: f32) -> io::Result<()> {
+    let asked = format!(in rt.alloc(); "    frequency {}", f64::from(x))?;
+    setting(
+        rt,
+        asked.as_str(),
+        convert::frequency::set(driver, x),
+        "CFTW0",
+        8,
+    )
 }
 
-fn reference(rt: &impl Print, head: &[u8], x: f32, multiplier: u32) -> io::Result<usize> {
-    let a = say::float(rt, say::text(rt, 0, head)?, b"reference ", x)?;
-    say::decimal(rt, a, b" x ", multiplier as u64)
+fn reference(rt: &HostRuntime, head: &str, x: f32, multiplier: u32) -> io::Result<String> {
+    Ok(format!(in rt.alloc(); "{head}reference {} x {multiplier}", f64::from(x))?)
 }
 
-// FR1 for a clock, which is judged first.
-pub fn clock(rt: &impl Print, was: u32, x: f32, multiplier: u32) -> io::Result<()> {
-    let made = convert::clock::of(x, multiplier);
-    let mut fr1 = answer::refused(made.number);
-    if made.number == answer::OK {
-        fr1 = bitfields::fr1::with_clock(was, multiplier, made.vco);
+/// FR1 for a clock, which is judged first.
+pub fn clock(rt: &HostRuntime, was: u32, x: f32, multiplier: u32) -> io::Result<()> {
+    let asked = reference(rt, "    ", x, multiplier)?;
+    let fr1 = clock::of(x, multiplier).and_then(|clock| fr1::with_clock(
+        was, multiplier, clock.vco,
+    ));
+    answered(rt, asked.as_str(), &fr1)?;
+    if let Ok(fr1) = fr1 {
+        print!(rt; "FR1 0x{fr1:06X}")?;
     }
-    let a = say::answer(rt, reference(rt, b"    ", x, multiplier)?, 30, fr1.number)?;
-    if fr1.number == answer::OK {
-        say::hex(rt, a, b"FR1 0x", fr1.value, 6)?;
-    }
-    say::text(rt, 0, b"\n")?;
-    Ok(())
+    println!(rt)
 }
 
-// A clock's ratio, and frequencies on a driver that has it.
-pub fn driver(rt: &impl Print, head: &[u8], x: f32, multiplier: u32) -> io::Result<()> {
-    let made = convert::clock::of(x, multiplier);
-    let ratio = made.ratio;
-    let driver = Driver { mode: 3, ratio };
-    let a = say::answer(rt, reference(rt, head, x, multiplier)?, 30, made.number)?;
-    if made.number == answer::OK {
-        say::float(rt, a, b"ratio ", ratio)?;
-    }
-    say::text(rt, 0, b"\n")?;
+/// A clock's ratio, and frequencies on a driver that has it.
+pub fn driver(rt: &HostRuntime, head: &str, x: f32, multiplier: u32) -> io::Result<()> {
+    let asked = reference(rt, head, x, multiplier)?;
+    let clock = clock::of(x, multiplier);
+    answered(rt, asked.as_str(), &clock)?;
+    let Ok(clock) = clock else {
+        return println!(rt);
+    };
+    println!(rt; "ratio {}", f64::from(clock.ratio))?;
+    let driver = Driver {
+        mode: 3,
+        ratio: clock.ratio,
+    };
     frequency(rt, driver, 1e6)?;
     frequency(rt, driver, 268435456.0)?;
-    frequency(rt, driver, 268435488.0)?;
-    Ok(())
+    frequency(rt, driver, 268435488.0)
 }

@@ -1,121 +1,115 @@
-// The four kinds of sequence as one, so that a host's one loop plays any of them.
+// The four kinds of sequence as one, so that one slot holds any of them and a host's one loop plays it.
 #![tactic(auto)]
 
-ghost use Rattle.std.specs.Prelude.{◌≡◌};
-ghost use Rattle.host.specs.Host.{action_of, reply_of, started_of, transferred_of, found_of, tested_of};
+ghost use Rattle.std.specs.Prelude.{◌≡◌, false};
+ghost use Rattle.host.specs.Host.{plan, table_of};
+ghost use Rattle.host.specs.Laws.{follows};
 
-use bus::{Action, Reply};
+use bus::{Action, Sequence};
 use convert::Driver;
-use driver::channel::{Transfer, Transferred};
-use driver::register::{Found, Register};
-use driver::{channel, register};
-use self_test::{SelfTest, Tested};
-use startup::{Made, Started, Startup};
+use driver::channel::Transfer;
+use driver::register::Register;
+use registers::refusal::Refusal;
+use self_test::SelfTest;
+use startup::Startup;
 
+// An enum and no dyn: a trait with an associated type and a final function makes none.
 #[derive(Clone, Copy)]
-pub enum Sequence {
+pub enum Kind {
     Startup(Startup),
     Transfer(Transfer),
     Register(Register),
     SelfTest(SelfTest),
 }
 
-// What a reply brings besides its number, once a sequence ends well.
+// What a sequence hands back at its end.
 #[derive(Clone, Copy)]
 pub enum Outcome {
-    Nothing,
     Driver(Driver),
     Float(f32),
     Word(u32),
     Passed(bool),
 }
 
-// A number, what it brings, and the sequence.
-#[derive(Clone, Copy)]
-pub struct Step {
-    pub number: u32,
-    pub outcome: Outcome,
-    pub sequence: Sequence,
-}
+impl Sequence for Kind {
+    type Output = Outcome;
 
-pub fn action(sequence: Sequence) -> Action
-    ensures { result ≡ action_of sequence }
-{
-    match sequence {
-        Sequence::Startup(s) => startup::action(s),
-        Sequence::Transfer(s) => channel::action(s),
-        Sequence::Register(s) => register::action(s),
-        Sequence::SelfTest(s) => self_test::action(s),
+    ghost plan = { plan };
+
+    ghost table_of = { table_of };
+
+    ghost laws = { follows };
+
+    #[tactic(auto, unfolding(bus::specs::Sequence::action))]
+    fn action(&self) -> Option<Action> {
+        match self {
+            Kind::Startup(s) => s.action(),
+            Kind::Transfer(s) => s.action(),
+            Kind::Register(s) => s.action(),
+            Kind::SelfTest(s) => s.action(),
+        }
+    }
+
+    fn judge(&self, value: u32) -> Result<Option<Outcome>, Refusal> {
+        Ok(match self {
+            Kind::Startup(s) => s.judge(value)?.map(Outcome::Driver),
+            Kind::Transfer(s) => s.judge(value)?.map(Outcome::Float),
+            Kind::Register(s) => s.judge(value)?.map(Outcome::Word),
+            Kind::SelfTest(s) => s.judge(value)?.map(Outcome::Passed),
+        })
+    }
+
+    fn onward(&mut self, value: u32) {
+        match self {
+            Kind::Startup(s) => s.onward(value),
+            Kind::Transfer(s) => s.onward(value),
+            Kind::Register(s) => s.onward(value),
+            Kind::SelfTest(s) => s.onward(value),
+        }
+    }
+
+    fn end(&mut self) {
+        match self {
+            Kind::Startup(s) => s.end(),
+            Kind::Transfer(s) => s.end(),
+            Kind::Register(s) => s.end(),
+            Kind::SelfTest(s) => s.end(),
+        }
     }
 }
 
-fn started(r: Started) -> Step
-    ensures { result ≡ started_of r }
-{
-    let driver = r.driver;
-    let next = r.sequence;
-    Step {
-        number: r.number,
-        outcome: match driver {
-            Made::Driver(d) => Outcome::Driver(d),
-            Made::NotYet => Outcome::Nothing,
-        },
-        sequence: Sequence::Startup(next),
-    }
-}
+#[cfg(test)]
+mod tests {
+    use super::{Kind, Outcome};
+    use bus::{Action, Bus, Reply};
+    use registers::address;
 
-fn transferred(r: Transferred) -> Step
-    ensures { result ≡ transferred_of r }
-{
-    let next = r.sequence;
-    Step {
-        number: r.number,
-        outcome: if r.done {
-            Outcome::Float(r.value)
-        } else {
-            Outcome::Nothing
-        },
-        sequence: Sequence::Transfer(next),
+    // A chip that remembers its CSR, and whose replies never fail.
+    #[derive(Clone, Copy)]
+    struct Chip {
+        csr: u32,
     }
-}
 
-fn found(r: Found) -> Step
-    ensures { result ≡ found_of r }
-{
-    let next = r.sequence;
-    Step {
-        number: r.number,
-        outcome: if r.done {
-            Outcome::Word(r.value)
-        } else {
-            Outcome::Nothing
-        },
-        sequence: Sequence::Register(next),
+    impl Bus for Chip {
+        ghost gives = { λ chip a r end. r.failed ≡ false };
+
+        fn play(&mut self, action: Action) -> Reply {
+            if let Action::Write(address::CSR, value) = action {
+                self.csr = value;
+            }
+            Reply {
+                failed: false,
+                value: self.csr,
+            }
+        }
     }
-}
 
-fn tested(r: Tested) -> Step
-    ensures { result ≡ tested_of r }
-{
-    let next = r.sequence;
-    Step {
-        number: r.number,
-        outcome: if r.done {
-            Outcome::Passed(r.passed)
-        } else {
-            Outcome::Nothing
-        },
-        sequence: Sequence::SelfTest(next),
-    }
-}
-
-pub fn reply(sequence: Sequence, reply: Reply) -> Step
-    ensures { result ≡ reply_of sequence reply }
-{
-    match sequence {
-        Sequence::Startup(s) => started(startup::reply(s, reply)),
-        Sequence::Transfer(s) => transferred(channel::reply(s, reply)),
-        Sequence::Register(s) => found(register::reply(s, reply)),
-        Sequence::SelfTest(s) => tested(self_test::reply(s, reply)),
+    #[test]
+    fn passes(rt: HostRuntime) {
+        let mut kind = Kind::SelfTest(self_test::new());
+        let mut chip = Chip { csr: 0x29 };
+        let passed = bus::run(&mut kind, &mut chip);
+        assert!(rt; matches!(passed, Ok(Outcome::Passed(true))));
+        assert_eq!(rt; chip.csr, 0x29);
     }
 }

@@ -6,7 +6,7 @@
 --     selected_give                             a register from 0x03 up leaves the selection
 --     selected_select                           CSR set to a mask selects it
 --     past_stays                                feeding leaves the words from 91 on, whatever the stream
-use mathlib.Core.Path.{◌≡◌, refl, ◌∙◌, subst}
+use mathlib.Core.Path.{◌≡◌, refl, sym, ap, ◌∙◌, subst}
 use mathlib.Core.Logic.{◌≢◌}
 use mathlib.Core.Bool.{Bool, true, false, cond, not, ◌&&◌, ◌||◌}
 use mathlib.Core.List.{List, [], ◌∷◌, ◌++◌}
@@ -14,17 +14,16 @@ use Prim.Native.Nat.{ℕ, zero, suc, ◌+◌, ◌*◌, ◌≤◌, ◌<◌}
 use native.Mathlib.Omega.{arith}
 use borrow.Author.Tests.{ne_eqb}
 use lib.Dec.{T, eqb, ltb, T_not, eqb_refl}
-use lib.ListN.{length, get_or, set, drop, length-set}
+use lib.ListN.{length, get_or, set, length-set}
 use lib.Seq.{get_or-set_other, get_or-set_same}
 use Rattle.registers.proofs.Choice.{by}
-use Rattle.registers.specs.Registers.{Write, wrote}
+use Rattle.registers.specs.Registers.{Write}
 use Rattle.bitfields.specs.Csr.{byte_of}
-use Rattle.registers.specs.Answers.{Ok}
-use Rattle.stream.specs.declared.Step.{Step}
-use Rattle.stream.specs.declared.Step.TheVariants.{One, Fault, End}
-use Rattle.stream.specs.Decoder.{Decoded, step_of, decoded_step, decode_from, decode_of}
-use Rattle.stream.proofs.Steps.{one_address}
-use Rattle.image.specs.Feed.{feed_number, feed_of}
+use Rattle.std.proofs.Common.{Result, Ok, Err}
+use Rattle.registers.specs.declared.refusal.Refusal.{Refusal}
+use Rattle.stream.specs.Decoder.{items_of, all_of, taken, decode_of}
+use Rattle.stream.proofs.Steps.{Named, items_named, taken_all}
+use Rattle.image.specs.Feed.{applied, feed_of}
 use Rattle.image.specs.Image.{selects, reaches, give_to, give, selected, select, write, apply}
 
 -- ---- lengths
@@ -93,34 +92,15 @@ past_write w image j h k =
     by (λ (l : List ℕ). get_or l j 0 ≡ get_or image j 0) (ltb w.address 3) (λ _. get_or-set_other image w.address j w.value 0 (λ e. omega arith))
     (λ _. give_stays 4 (selected image) w.address w.value image j (misses 4 (selected image) w.address j (λ i l e. omega arith)))
 
-abbrev Addressed : List Write → Type 0
-Addressed [] = Unit {0}
-Addressed (w ∷ ws) = (w.address < 25) × Addressed ws
+past_taken : (rs : List (Result Write Refusal)) (image : List ℕ) (j : ℕ) → Named rs → 91 ≤ j → get_or (apply (taken rs) image) j 0 ≡ get_or image j 0
+past_taken [] image j g k = refl
+past_taken ((Ok w) ∷ rs) image j g k = past_taken rs (write w image) j g.1 k ∙ past_write w image j g.0 k
+past_taken ((Err e) ∷ rs) image j g k = refl
 
-past_apply : (ws : List Write) (image : List ℕ) (j : ℕ) → Addressed ws → 91 ≤ j → get_or (apply ws image) j 0 ≡ get_or image j 0
-past_apply [] image j g k = refl
-past_apply (w ∷ ws) image j g k = past_apply ws (write w image) j g.1 k ∙ past_write w image j g.0 k
-
-addressed_snoc : (ws : List Write) (w : Write) → Addressed ws → w.address < 25 → Addressed (ws ++ w ∷ [])
-addressed_snoc [] w g h = (h, tt)
-addressed_snoc (x ∷ ws) w g h = (g.0, addressed_snoc ws w g.1 h)
-
--- what a stream decodes to are writes of registers
-by_step : (go : List Write → List ℕ → Decoded) (ws : List Write) (bs : List ℕ) (x : Step) → ((us : List Write) (cs : List ℕ) → Addressed us → Addressed (go us cs).writes)
-    → x ≡ step_of bs → Addressed ws → Addressed (decoded_step go ws bs x).writes
-by_step go ws bs End ih e g = g
-by_step go ws bs (Fault k) ih e g = g
-by_step go ws bs (One a v w) ih e g = ih (ws ++ wrote a v ∷ []) (drop (suc w) bs) (addressed_snoc ws (wrote a v) g (one_address bs a v w e))
-
-decoded_from : (n : ℕ) (ws : List Write) (bs : List ℕ) → Addressed ws → Addressed (decode_from n ws bs).writes
-unfolding decode_from
-decoded_from zero ws bs g = g
-decoded_from (suc n) ws bs g = by_step (decode_from n) ws bs (step_of bs) (decoded_from n) refl g
-
-decoded : (bs : List ℕ) → Addressed (decode_of bs).writes
-unfolding decode_of
-decoded bs = decoded_from (suc (length bs)) [] bs tt
+past_applied : (rs : List (Result Write Refusal)) (d : Result (List Write) Refusal) (image : List ℕ) (j : ℕ) → all_of rs ≡ d → Named rs → 91 ≤ j → get_or (applied d image) j 0 ≡ get_or image j 0
+past_applied rs (Ok ws) image j e g k = ap (λ us. get_or (apply us image) j 0) (sym (taken_all rs ws e)) ∙ past_taken rs image j g k
+past_applied rs (Err f) image j e g k = refl
 
 pub past_stays : (bytes image : List ℕ) (j : ℕ) → 91 ≤ j → get_or (feed_of bytes image) j 0 ≡ get_or image j 0
 past_stays bytes image j k =
-    by (λ (l : List ℕ). get_or l j 0 ≡ get_or image j 0) (eqb (feed_number bytes image) Ok) (λ _. past_apply (decode_of bytes).writes image j (decoded bytes) k) (λ _. refl)
+    by (λ (l : List ℕ). get_or l j 0 ≡ get_or image j 0) (ltb (length image) 91) (λ _. refl) (λ _. past_applied (items_of bytes) (decode_of bytes) image j refl (items_named bytes) k)

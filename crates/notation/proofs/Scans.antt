@@ -1,39 +1,22 @@
--- Digits, and numbers byte by byte.
---     in_range, below_range, above_range   a byte and a range
---     rest_of   what `&t[n..]` holds
---     scan_next, scan_stop, scan_over, scan_fits   a digit, another byte, and the end
---     scan_start, magnitude_none   the start, and no digit
-use Prim.Native.Nat.{ℕ, suc, ◌+◌, ◌-◌, ◌*◌, ◌<◌, ◌≤◌}
-use mathlib.Core.Path.{◌≡◌, refl, ap}
-use mathlib.Core.Bool.{Bool, true, false, cond, and-false}
-use mathlib.Core.List.{List, [], ◌∷◌}
-use native.Mathlib.Omega.{arith}
+-- Numbers byte by byte.
+--     digit_same, digit_none   std's digit, and another byte
+--     scan_next, scan_stop   a digit, and another byte
+use Rattle.std.proofs.Common.{ℕ, suc, ◌+◌, ◌-◌, ◌*◌, ◌^◌, ◌<◌, ◌≤◌, ◌≡◌, refl, ap, Bool, true, false, cond, List, [], ◌∷◌, length, get_or, drop, arith}
+use Rattle.std.proofs.Common.{Ok, Err, min}
+use Rattle.std.specs.Char.{digit_value}
 use native.Mathlib.Nat.{mul-le-mul_left}
 use native.Mathlib.Numerals.{add-one}
 use lib.Dec.{ltb}
-use lib.ListN.{length, get_or, take, drop, length-drop}
-use lib.Seq.{drop-cons, drop-length, take_all}
-use borrow.Author.Tests.{lt-ltb, le-ltb, le-leb, lt-leb, ltb-false}
-use Rattle.notation.specs.declared.digits.Number.TheVariants.{Bits, Not}
+use lib.Seq.{drop-cons}
+use borrow.Author.Tests.{lt-ltb, le-ltb, ltb-false, ltb-true}
+use Rattle.std.proofs.lemmas.Bool.Decides.{nat_tests}
+use lib.ListN.{drop_of_length-le}
 use Rattle.notation.specs.declared.Reason.TheVariants.{Digits, Large}
-use Rattle.notation.specs.Numbers.{within, digit_of, scan_of, magnitude_of}
+use Rattle.notation.specs.Numbers.{digit_of, scan_of}
 
-module _ (low high b : ℕ) where
-  pub in_range : low ≤ b → b ≤ high → within low high b ≡ true
-  in_range h k = simp (le-leb low b h, le-leb b high k)
-
-  pub below_range : b < low → within low high b ≡ false
-  below_range h = simp (lt-leb low b h)
-
-  pub above_range : high < b → within low high b ≡ false
-  above_range h = simp (lt-leb b high h, and-false)
-
--- what `&t[n..]` holds
-pub rest_of : (n : ℕ) (t : List ℕ) → take (length t - n) (drop n t) ≡ drop n t
-rest_of n t = take_all (length t - n) (drop n t) (omega (arith, length-drop n t))
-
-nonzero : {n : ℕ} → suc n ≡ 0 → ⊥
-nonzero h = omega arith
+digit_is : (b : ℕ) → digit_of b ≡ min 16 (digit_value b)
+unfolding digit_of
+digit_is b = grind (arith, nat_tests)
 
 module _ (base : ℕ) (some : 1 ≤ base) where
   grows : (v d : ℕ) → 4294967296 ≤ v → 4294967296 ≤ v * base + d
@@ -43,40 +26,35 @@ module _ (base : ℕ) (some : 1 ≤ base) where
   unfolding scan_of
   scan_large v w [] hv hw = simp (le-ltb v 4294967296 hv, le-ltb w 4294967296 hw)
   scan_large v w (b ∷ bs) hv hw =
-      ap (λ n. cond (ltb (digit_of b) base) n (Not Digits))
+      ap (λ n. cond (ltb (digit_of b) base) n (Err Digits))
       (scan_large (v * base + digit_of b) (w * base + digit_of b) bs (grows v (digit_of b) hv) (grows w (digit_of b) hw))
 
-  scan_capped : (v b : ℕ) (bs : List ℕ) (t : Bool) → ltb v 4294967296 ≡ t → digit_of b < base → scan_of base (cond t (v * base + digit_of b) v) bs ≡ scan_of base v (b ∷ bs)
+  capped : (v w d : ℕ) (bs : List ℕ) → w ≡ min (min (v * base) (2 ^ 64 - 1) + d) (2 ^ 64 - 1) → (s : Bool) → ltb (v * base + d) 18446744073709551616 ≡ s → scan_of base w bs ≡ scan_of base (v * base + d) bs
+  capped v w d bs e true q =
+      let k : v * base + d < 18446744073709551616 = ltb-true (v * base + d) 18446744073709551616 q in
+      let f : w ≡ v * base + d = omega arith in
+      rw f
+  capped v w d bs e false q =
+      let k : 18446744073709551616 ≤ v * base + d = ltb-false (v * base + d) 18446744073709551616 q in
+      scan_large w (v * base + d) bs (omega arith) (omega arith)
+
+  scan_capped : (v w d : ℕ) (bs : List ℕ) → w ≡ min (min (v * base) (2 ^ 64 - 1) + d) (2 ^ 64 - 1) → scan_of base w bs ≡ scan_of base (v * base + d) bs
+  scan_capped v w d bs e = capped v w d bs e (ltb (v * base + d) 18446744073709551616) refl
+
+  module _ (few : base ≤ 16) (t : List ℕ) (i v : ℕ) (there : i < length t) where
+    pub scan_next : (w d : ℕ) → d ≡ digit_value (get_or t i 0) → d < base → w ≡ min (min (v * base) (2 ^ 64 - 1) + d) (2 ^ 64 - 1) → scan_of base w (drop (i + 1) t) ≡ scan_of base v (drop i t)
+    unfolding scan_of
+    scan_next w d e h f =
+        let s : digit_of (get_or t i 0) ≡ d = omega (arith, digit_is (get_or t i 0)) in
+        rw (add-one, drop-cons t i 0)
+        (simp (s, lt-ltb d base h) (scan_capped v w d (drop (suc i) t) f))
+
+    pub scan_stop : base ≤ digit_value (get_or t i 0) → Err Digits ≡ scan_of base v (drop i t)
+    unfolding scan_of
+    scan_stop h =
+        let s : base ≤ digit_of (get_or t i 0) = omega (arith, digit_is (get_or t i 0)) in
+        rw (drop-cons t i 0) (simp (le-ltb _ base s))
+
+  pub scan_end : (t : List ℕ) (i v : ℕ) → length t ≤ i → scan_of base v (drop i t) ≡ cond (ltb v 4294967296) (Ok v) (Err Large)
   unfolding scan_of
-  scan_capped v b bs true e h = simp (lt-ltb (digit_of b) base h)
-  scan_capped v b bs false e h =
-      simp (lt-ltb (digit_of b) base h)
-      (scan_large v (v * base + digit_of b) bs (ltb-false v 4294967296 e) (grows v (digit_of b) (ltb-false v 4294967296 e)))
-
-  module _ (t : List ℕ) (i : ℕ) where
-    pub scan_next : (v v' d : ℕ) → i < length t → d ≡ digit_of (get_or t i 0) → d < base → v' ≡ cond (ltb v 4294967296) (v * base + d) v → scan_of base v' (drop (i + 1) t) ≡ scan_of base v (drop i t)
-    scan_next v v' d h e l f =
-        rw (f, add-one, drop-cons t i 0)
-        (rw e (scan_capped v (get_or t i 0) (drop (suc i) t) (ltb v 4294967296) refl (rw e at l)))
-
-    pub scan_stop : (v d : ℕ) → i < length t → d ≡ digit_of (get_or t i 0) → base ≤ d → Not Digits ≡ scan_of base v (drop i t)
-    unfolding scan_of
-    scan_stop v d h e l = rw (drop-cons t i 0) (simp (le-ltb (digit_of (get_or t i 0)) base (rw e at l)))
-
-    pub scan_over : (v : ℕ) → i ≡ length t → 4294967296 ≤ v → Not Large ≡ scan_of base v (drop i t)
-    unfolding scan_of
-    scan_over v e h = rw (e, drop-length) (simp (le-ltb v 4294967296 h))
-
-    pub scan_fits : (v : ℕ) → i ≡ length t → v < 4294967296 → Bits v ≡ scan_of base v (drop i t)
-    unfolding scan_of
-    scan_fits v e h = rw (e, drop-length) (simp (lt-ltb v 4294967296 h))
-
-  pub scan_start : (t : List ℕ) → (length t ≡ 0 → ⊥) → scan_of base 0 (drop 0 t) ≡ magnitude_of base t
-  unfolding magnitude_of
-  scan_start [] h = absurd (h refl)
-  scan_start (b ∷ bs) h = refl
-
-  pub magnitude_none : (t : List ℕ) → length t ≡ 0 → Not Digits ≡ magnitude_of base t
-  unfolding magnitude_of
-  magnitude_none [] h = refl
-  magnitude_none (b ∷ bs) h = absurd (nonzero h)
+  scan_end t i v h = rw (drop_of_length-le t h)

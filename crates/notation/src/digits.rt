@@ -1,115 +1,52 @@
 // A word as a number.
-ghost use Rattle.std.specs.Prelude.{◌≡◌, cond, true, ◌+◌, ◌*◌, ◌<◌, ◌≤◌, ltb, length};
-ghost use Rattle.notation.specs.Numbers.{digit_of, magnitude_of, negative_of, hex_of, number_of};
+ghost use Rattle.std.specs.Prelude.{◌≡◌, ◌≤◌};
+ghost use Rattle.notation.specs.Numbers.{magnitude_of, negative_of, number_of};
 
 use crate::Reason;
 
-// A number by its 32 bits, or why there is none.
-#[derive(Clone, Copy)]
-pub enum Number {
-    Bits(u32),
-    Not(Reason),
-}
-
-// A digit's value, or 16.
-fn digit(b: u8) -> u64
-    ensures { result ≡ digit_of b }
-{
-    match b {
-        b'0'..=b'9' => (b - b'0') as u64,
-        b'A'..=b'F' => (b - b'A') as u64 + 10,
-        b'a'..=b'f' => (b - b'a') as u64 + 10,
-        _ => 16,
-    }
-}
-
-// A value with one more digit behind it. Past 32 bits it stays: only that it is large matters then.
-fn longer(value: u64, base: u64, d: u64) -> u64
-    requires base_in { base ≤ 16 }
-    requires digit_in { d < base }
-    requires value_in { value ≤ 68719476735 }
-    ensures value { result ≡ cond (ltb value 4294967296) (value * base + d) value }
-    ensures within { result ≤ 68719476735 }
-{
-    if 4294967295 < value {
-        return value;
-    }
-    value * base + d
-}
-
-// Digits alone, and at least one.
-fn magnitude(text: &[u8], base: u64) -> Number
-    requires some { 1 ≤ base }
+// Digits alone, and at least one. The value is held past 32 bits: only that it is large matters then.
+#[tactic(auto, using(crate::proofs::Scans::scan_next, crate::proofs::Scans::scan_stop, crate::proofs::Scans::scan_end), unfolding(crate::specs::Numbers::magnitude_of))]
+fn magnitude(text: &[u8], base: u32) -> Result<u32, Reason>
+    requires some { 2 ≤ base }
     requires base_in { base ≤ 16 }
     ensures { result ≡ magnitude_of base text.now }
 {
-    if text.len() == 0 {
-        return Number::Not(Reason::Digits);
+    if text.is_empty() {
+        return Err(Reason::Digits);
     }
     let mut value: u64 = 0;
-    let mut i = 0;
-    while i < text.len() {
-        let d = digit(text[i]);
-        if base <= d {
-            return Number::Not(Reason::Digits);
-        }
-        value = longer(value, base, d);
-        i = i + 1;
+    for &b in text {
+        let digit = (b as char).to_digit(base).ok_or(Reason::Digits)?;
+        value = value
+            .saturating_mul(base as u64)
+            .saturating_add(digit as u64);
     }
-    if 4294967295 < value {
-        return Number::Not(Reason::Large);
-    }
-    Number::Bits(value as u32)
+    u32::try_from(value).map_err(|_| Reason::Large)
 }
 
 // What a minus sign makes of the number behind it.
-fn negative(n: Number, signed: bool) -> Number
+fn negative(n: u32, signed: bool) -> Result<u32, Reason>
     ensures { result ≡ negative_of signed n }
 {
-    match n {
-        Number::Bits(v) => {
-            if 2147483648 < v {
-                return Number::Not(Reason::Large);
-            }
-            if signed {
-                return Number::Bits(((4294967296 - v as u64) % 4294967296) as u32);
-            }
-            Number::Not(Reason::Negative)
-        }
-        Number::Not(r) => Number::Not(r),
+    if 2147483648 < n {
+        return Err(Reason::Large);
     }
-}
-
-// Whether a word starts with 0x or 0X.
-fn is_hex(text: &[u8]) -> bool
-    ensures hex { result ≡ hex_of text.now }
-    ensures long { result ≡ true → 2 ≤ length text.now }
-{
-    if text.len() < 2 {
-        return false;
-    }
-    if text[0] != b'0' {
-        return false;
-    }
-    let x = text[1];
-    match x {
-        b'x' | b'X' => true,
-        _ => false,
+    if signed {
+        Ok(n.wrapping_neg())
+    } else {
+        Err(Reason::Negative)
     }
 }
 
 // Decimal, hexadecimal behind 0x, or decimal behind a minus sign where one is allowed.
-pub fn read(text: &[u8], signed: bool) -> Number
+#[tactic(auto, unfolding(crate::specs::Numbers::number_of))]
+pub fn read(text: &[u8], signed: bool) -> Result<u32, Reason>
     ensures { result ≡ number_of signed text.now }
 {
-    if text.len() == 0 {
-        return Number::Not(Reason::Missing);
+    match text {
+        [] => Err(Reason::Missing),
+        [b'-', digits @ ..] => negative(magnitude(digits, 10)?, signed),
+        [b'0', b'x' | b'X', digits @ ..] => magnitude(digits, 16),
+        _ => magnitude(text, 10),
     }
-    if text[0] == b'-' {
-        return negative(magnitude(&text[1..], 10), signed);
-    }
-    if is_hex(text) {
-        return magnitude(&text[2..], 16);
-    }
-    magnitude(text, 10)
 }

@@ -1,19 +1,21 @@
 // The notation of a pulse script: one step a line, words parted by blanks, `#` before a comment.
 #![tactic(auto)]
 
-ghost use Rattle.std.specs.Prelude.{◌≤◌, ◌≡◌, length};
-ghost use Rattle.notation.specs.Lines.{bad_at, value_of, alone_of, mode_of, named_of, has_of, with_of};
+ghost use Rattle.std.specs.Prelude.{◌≡◌, ◌≤◌, length, Some};
+ghost use Rattle.notation.specs.Reasons.{sentence_of};
+ghost use Rattle.notation.specs.Lines.{with_place, value_of, alone_of, mode_of, named_of, takes_sign, has_of, with_of};
 ghost use Rattle.notation.specs.Lines.{add_of, fields_of, push_of, line_of};
 
-use digits::Number;
-use rules::{Tuning, Value};
-use words::Span;
+use rules::Push;
+use std::fmt;
+pub use words::Span;
+use words::Words;
 
 mod digits;
 mod words;
 
-// What is wrong with a line that cannot be read.
-#[derive(Clone, Copy)]
+/// What is wrong with a line that cannot be read.
+#[derive(Clone, Copy, Debug, PartialEq, Eq)]
 pub enum Reason {
     Step,
     Missing,
@@ -25,264 +27,191 @@ pub enum Reason {
     More,
 }
 
-// A reason, and the part of the line that it is about.
-#[derive(Clone, Copy)]
+impl fmt::Display for Reason {
+    ghost output = { λ reason. Some (sentence_of reason) };
+
+    fn fmt<W: fmt::Write>(&self, f: &mut fmt::Formatter<W>) -> fmt::Result {
+        f.write_str(match self {
+            Reason::Step => "is no step: a line starts with mode, push, finalize or show",
+            Reason::Missing => "a number is missing at the end",
+            Reason::Digits => "is no number: write 10, 0x0A or, for a word, -10",
+            Reason::Large => "does not fit into 32 bits",
+            Reason::Negative => "is negative, and only a word may be",
+            Reason::Field => "is no field: a push takes word, phase and acr",
+            Reason::Twice => "comes twice",
+            Reason::More => "is too much: the step ends before it (a comment starts with #)",
+        })
+    }
+}
+
+/// A reason, and the part of the line that it is about.
+#[derive(Clone, Copy, Debug, PartialEq, Eq)]
 pub struct Fault {
     pub reason: Reason,
-    pub start: usize,
-    pub end: usize,
+    pub part: Span,
 }
 
-// The channels by their mask, and what is given for them.
-#[derive(Clone, Copy)]
-pub struct Push {
-    pub mask: u32,
-    pub word: Tuning,
-    pub phase: Value,
-    pub acr: Value,
-}
-
-// What a line says.
-#[derive(Clone, Copy)]
+/// What a line says.
+#[derive(Clone, Copy, Debug, PartialEq, Eq)]
 pub enum Line {
     Blank,
     Mode(u32),
     Push(Push),
     Finalize,
     Show,
-    Unread(Fault),
-}
-
-// A number with the place behind it, or why there is none.
-#[derive(Clone, Copy)]
-enum Got {
-    Bits(u32, usize),
-    Bad(Fault),
 }
 
 // A field of a push.
-#[derive(Clone, Copy)]
+#[derive(Clone, Copy, Debug, PartialEq, Eq)]
 enum Field {
     Word,
     Phase,
     Acr,
 }
 
-// The field that a word names, if it names one, and whether the field's number may have a sign.
-#[derive(Clone, Copy)]
-enum Found {
-    Is(Field, bool),
-    Nothing,
-}
-
-// A push with one more field and the place behind it, or why there is none.
-#[derive(Clone, Copy)]
-enum Taken {
-    More(Push, usize),
-    Bad(Fault),
-}
-
-// A fault of a part of the line.
-fn bad(reason: Reason, s: Span) -> Fault
-    ensures { result ≡ bad_at reason s }
-{
-    Fault {
-        reason,
-        start: s.start,
-        end: s.end,
+impl Field {
+    #[tactic(auto, unfolding(crate::specs::Lines::named_of))]
+    fn named(text: &[u8]) -> Option<Field>
+        ensures { result ≡ named_of text.now }
+    {
+        match text {
+            b"word" => Some(Field::Word),
+            b"phase" => Some(Field::Phase),
+            b"acr" => Some(Field::Acr),
+            _ => None,
+        }
     }
-}
 
-// The next word as a number.
-fn value(line: &[u8], at: usize, signed: bool) -> Got
-    ensures { result ≡ value_of line.now at signed }
-{
-    let s = words::next(line, at);
-    let start = s.start;
-    let end = s.end;
-    match digits::read(&line[start..end], signed) {
-        Number::Bits(v) => Got::Bits(v, end),
-        Number::Not(r) => Got::Bad(bad(r, s)),
+    // Only a word may be negative.
+    fn takes_sign(self) -> bool
+        ensures { result ≡ takes_sign self }
+    {
+        matches!(self, Field::Word)
+    }
+
+    // Whether a push has the field already.
+    fn is_in(self, push: Push) -> bool
+        ensures { result ≡ has_of push self }
+    {
+        match self {
+            Field::Word => push.word.is_some(),
+            Field::Phase => push.phase.is_some(),
+            Field::Acr => push.acr.is_some(),
+        }
+    }
+
+    // A push with the field.
+    fn put_in(self, push: Push, n: u32) -> Push
+        ensures { result ≡ with_of push self n }
+    {
+        match self {
+            Field::Word => Push {
+                word: Some(rules::signed(n)),
+                ..push
+            },
+            Field::Phase => Push {
+                phase: Some(n),
+                ..push
+            },
+            Field::Acr => Push {
+                acr: Some(n),
+                ..push
+            },
+        }
     }
 }
 
 // A step, if no word stands behind it.
-fn alone(line: &[u8], at: usize, step: Line) -> Line
-    ensures { result ≡ alone_of line.now at step }
+#[tactic(auto, unfolding(crate::specs::Lines::alone_of))]
+fn alone(words: &mut Words, step: Line) -> Result<Line, Fault>
+    ensures { result ≡ alone_of words.old.line.now words.old.at step }
 {
-    let s = words::next(line, at);
-    if s.start == s.end {
-        return step;
+    let part = words.next();
+    if part.is_empty() {
+        Ok(step)
+    } else {
+        Err(Fault {
+            reason: Reason::More,
+            part,
+        })
     }
-    Line::Unread(bad(Reason::More, s))
 }
 
 // A mode, by the number behind its name.
-fn read_mode(line: &[u8], at: usize) -> Line
-    ensures { result ≡ mode_of line.now at }
+#[tactic(auto, unfolding(crate::specs::Lines::mode_of))]
+fn read_mode(words: &mut Words) -> Result<Line, Fault>
+    ensures { result ≡ mode_of words.old.line.now words.old.at }
 {
-    match value(line, at, false) {
-        Got::Bits(v, next) => alone(line, next, Line::Mode(v)),
-        Got::Bad(f) => Line::Unread(f),
-    }
-}
-
-// The field with a name: only a word may be negative.
-fn named(text: &[u8]) -> Found
-    ensures { result ≡ named_of text.now }
-{
-    if check::same(text, b"word") {
-        return Found::Is(Field::Word, true);
-    }
-    if check::same(text, b"phase") {
-        return Found::Is(Field::Phase, false);
-    }
-    if check::same(text, b"acr") {
-        return Found::Is(Field::Acr, false);
-    }
-    Found::Nothing
-}
-
-// Whether a push has a field already.
-fn has(push: Push, field: Field) -> bool
-    ensures { result ≡ has_of push field }
-{
-    let word = push.word;
-    let phase = push.phase;
-    let acr = push.acr;
-    match field {
-        Field::Word => match word {
-            Tuning::Tune(_z) => true,
-            Tuning::Keep => false,
-        },
-        Field::Phase => match phase {
-            Value::Given(_v) => true,
-            Value::Absent => false,
-        },
-        Field::Acr => match acr {
-            Value::Given(_v) => true,
-            Value::Absent => false,
-        },
-    }
-}
-
-// A push with a field.
-fn with(push: Push, field: Field, v: u32) -> Push
-    ensures { result ≡ with_of push field v }
-{
-    let mask = push.mask;
-    let word = push.word;
-    let phase = push.phase;
-    let acr = push.acr;
-    match field {
-        Field::Word => Push {
-            mask,
-            word: Tuning::Tune(rules::signed(v)),
-            phase,
-            acr,
-        },
-        Field::Phase => Push {
-            mask,
-            word,
-            phase: Value::Given(v),
-            acr,
-        },
-        Field::Acr => Push {
-            mask,
-            word,
-            phase,
-            acr: Value::Given(v),
-        },
-    }
+    let mode = words.number(false)?;
+    alone(words, Line::Mode(mode))
 }
 
 // A push with the field that a part of the line names.
-fn add(line: &[u8], push: Push, s: Span) -> Taken
-    requires ordered { s.start ≤ s.end }
-    requires within { s.end ≤ length line.now }
-    ensures { result ≡ add_of line.now push s }
+#[tactic(auto, unfolding(crate::specs::Lines::add_of))]
+fn add(words: &mut Words, push: Push, part: Span) -> Result<Push, Fault>
+    requires ordered { part.start ≤ part.end }
+    requires within { part.end ≤ length words.old.line.now }
+    requires behind { words.old.at ≡ part.end }
+    ensures push { with_place result words.new.at ≡ add_of words.old.line.now push part }
+    ensures line { words.new.line.now ≡ words.old.line.now }
 {
-    let start = s.start;
-    let end = s.end;
-    match named(&line[start..end]) {
-        Found::Is(field, signed) => {
-            if has(push, field) {
-                return Taken::Bad(bad(Reason::Twice, s));
-            }
-            match value(line, end, signed) {
-                Got::Bits(v, at) => Taken::More(with(push, field, v), at),
-                Got::Bad(f) => Taken::Bad(f),
-            }
-        }
-        Found::Nothing => Taken::Bad(bad(Reason::Field, s)),
+    let reason = Reason::Field;
+    let field = Field::named(part.of(words.line)).ok_or(Fault { reason, part })?;
+    if field.is_in(push) {
+        let reason = Reason::Twice;
+        return Err(Fault { reason, part });
     }
+    let n = words.number(field.takes_sign())?;
+    Ok(field.put_in(push, n))
 }
 
 // The fields of a push. None comes twice, so the fourth look finds the end or a fault.
-fn fields(line: &[u8], mut push: Push, mut at: usize) -> Line
-    ensures { result ≡ fields_of 4 line.now push at }
+#[tactic(auto, using(crate::proofs::Looks::look, crate::proofs::Looks::look_last))]
+fn fields(words: &mut Words, mut push: Push) -> Result<Push, Fault>
+    ensures { result ≡ fields_of 4 words.old.line.now push words.old.at }
 {
-    let mut look: usize = 0;
-    while look < 4 {
-        let s = words::next(line, at);
-        if s.start == s.end {
-            return Line::Push(push);
+    for _ in 0..4u32 {
+        let part = words.next();
+        if part.is_empty() {
+            return Ok(push);
         }
-        match add(line, push, s) {
-            Taken::More(p, next) => {
-                push = p;
-                at = next;
-            }
-            Taken::Bad(f) => {
-                return Line::Unread(f);
-            }
-        }
-        look = look + 1;
+        push = add(words, push, part)?;
     }
-    Line::Push(push)
+    Ok(push)
 }
 
 // A push, by the mask behind its name and its fields.
-fn read_push(line: &[u8], at: usize) -> Line
-    ensures { result ≡ push_of line.now at }
+#[tactic(auto, unfolding(crate::specs::Lines::push_of))]
+fn read_push(words: &mut Words) -> Result<Line, Fault>
+    ensures { result ≡ push_of words.old.line.now words.old.at }
 {
-    match value(line, at, false) {
-        Got::Bits(mask, next) => fields(
-            line,
-            Push {
-                mask,
-                word: Tuning::Keep,
-                phase: Value::Absent,
-                acr: Value::Absent,
-            },
-            next,
-        ),
-        Got::Bad(f) => Line::Unread(f),
-    }
+    let bare = Push {
+        mask: words.number(false)?,
+        word: None,
+        phase: None,
+        acr: None,
+    };
+    Ok(Line::Push(fields(words, bare)?))
 }
 
-// What a line says, or why it cannot be read.
-pub fn read(line: &[u8]) -> Line
+/// What a line says, or why it cannot be read.
+#[tactic(auto, unfolding(crate::specs::Lines::line_of, crate::specs::Lines::step_of))]
+pub fn read(line: &[u8]) -> Result<Line, Fault>
     ensures { result ≡ line_of line.now }
 {
-    let s = words::next(line, 0);
-    let start = s.start;
-    let end = s.end;
-    if start == end {
-        return Line::Blank;
+    let mut words = Words::of(line);
+    let part = words.next();
+    if part.is_empty() {
+        return Ok(Line::Blank);
     }
-    let word = &line[start..end];
-    if check::same(word, b"push") {
-        return read_push(line, end);
+    match part.of(line) {
+        b"push" => read_push(&mut words),
+        b"mode" => read_mode(&mut words),
+        b"finalize" => alone(&mut words, Line::Finalize),
+        b"show" => alone(&mut words, Line::Show),
+        _ => Err(Fault {
+            reason: Reason::Step,
+            part,
+        }),
     }
-    if check::same(word, b"mode") {
-        return read_mode(line, end);
-    }
-    if check::same(word, b"finalize") {
-        return alone(line, end, Line::Finalize);
-    }
-    if check::same(word, b"show") {
-        return alone(line, end, Line::Show);
-    }
-    Line::Unread(bad(Reason::Step, s))
 }

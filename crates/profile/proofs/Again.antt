@@ -5,12 +5,11 @@ use mathlib.Core.Bool.{Bool, true, false, cond}
 use Prim.Native.Nat.{ℕ, ◌+◌, ◌%◌}
 use native.Mathlib.Nat.{add-zero}
 use native.Mathlib.Omega.{arith}
-use lib.Dec.{eqb}
-use Rattle.registers.specs.Answers.{Ok}
+use Rattle.std.specs.Prelude.{is_ok}
 use Rattle.registers.proofs.Laid.{laid_nil}
 use Rattle.stream.specs.Streams.{encode}
 use Rattle.profile.specs.declared.ProfileSerializer.{ProfileSerializer}
-use Rattle.rules.specs.Rules.{padding, padding_writes, finalize_number}
+use Rattle.rules.specs.Rules.{padding, padding_writes, finalize_judged}
 use Rattle.profile.specs.Serializer.{padded, finalized_of}
 use Rattle.rules.proofs.Lengths.{padded_quarters}
 
@@ -25,6 +24,6 @@ same : (t : Bool) (s : ProfileSerializer) → cond t (padded (padded s)) (padded
 same true s = padded_again s
 same false s = refl
 
-pub finalize_again : (s : ProfileSerializer) (words words' : ℕ) → finalize_number s.mode s.length words ≡ Ok → finalized_of (finalized_of s words) words' ≡ finalized_of s words
+pub finalize_again : (s : ProfileSerializer) (words words' : ℕ) → is_ok (finalize_judged s.mode s.length words) ≡ true → finalized_of (finalized_of s words) words' ≡ finalized_of s words
 unfolding finalized_of
-finalize_again s words words' h = rw h (same (eqb (finalize_number s.mode (padded s).length words') Ok) s)
+finalize_again s words words' h = rw h (same (is_ok (finalize_judged s.mode (padded s).length words')) s)

@@ -1,15 +1,14 @@
 -- Words left to be laid: a store takes one off.
---     four_bytes   four bytes make a word, low byte first
 --     done         none left
 --     whole        all left
 --     one_word .. four_words   so many stores
 use mathlib.Core.Path.{◌≡◌, refl, sym, ap, ◌∙◌}
 use mathlib.Core.List.{List}
 use Prim.Native.Nat.{ℕ, zero, suc, ◌+◌, ◌*◌, ◌-◌, ◌≤◌, ◌<◌}
-use native.Mathlib.Nat.{add-zero, sub-zero}
+use native.Mathlib.Nat.{sub-zero}
 use native.Mathlib.Omega.{arith}
-use lib.ListN.{length, get_or, set, drop, length-set}
-use lib.Seq.{get_or-drop, drop-drop}
+use lib.ListN.{length, set, drop, length-set}
+use lib.Seq.{drop-drop}
 use Rattle.registers.specs.Bytes.{laid}
 use Rattle.registers.proofs.Laid.{laid_cons, laid_nil}
 use Rattle.profile.specs.Serializer.{words_of, four_of}
@@ -29,10 +28,6 @@ turn d bs n i x h k e =
     let q : (i + 1) * 4 ≡ i * 4 + 4 = omega arith in
     let m = length_words (n - (i + 1)) (drop (i * 4 + 4) bs) in
     rw (p, q, drop-drop, e) (sym (laid_cons d i (four_of (drop (i * 4) bs)) (words_of (n - (i + 1)) (drop (i * 4 + 4) bs)) (omega arith)))
-
-pub four_bytes : (bs : List ℕ) (k a b c d : ℕ) → a ≡ get_or bs k 0 → b ≡ get_or bs (k + 1) 0 → c ≡ get_or bs (k + 2) 0 → d ≡ get_or bs (k + 3) 0
-    → a + b * 256 + c * 65536 + d * 16777216 ≡ four_of (drop k bs)
-four_bytes bs k a b c d e f g h = rw (e, f, g, h) (simp (get_or-drop, add-zero))
 
 pub done : (d bs : List ℕ) (n i : ℕ) → n ≤ i → left_of n i d bs ≡ d
 unfolding words_of

@@ -2,4 +2,3 @@ pub mod Sizes
 pub mod Puts
 pub mod Left
 pub mod Again
-pub mod InPlace

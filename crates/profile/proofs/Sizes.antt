@@ -13,30 +13,31 @@ use lib.ListN.{length, length-append}
 use Rattle.registers.specs.Registers.{Write, wrote, width_of, CSR, CFTW0, CPOW0, ACR, LSRR}
 use Rattle.stream.specs.Streams.{write_bytes, encode}
 use Rattle.stream.proofs.Streams.{encode_one, encode_append, length_write}
-use Rattle.rules.specs.declared.Value.{Value}
-use Rattle.rules.specs.declared.Value.TheVariants.{Given, Absent}
-use Rattle.rules.specs.Rules.{cost, push_size, padding_by, padding, given, csr, push_writes, padding_writes}
+use Rattle.std.specs.Prelude.{Some, None}
+use Rattle.std.specs.declared.option.Option.{Option}
+use Rattle.rules.specs.declared.Push.{Push}
+use Rattle.rules.specs.Rules.{word_of, cost, push_size, padding_by, padding, given, csr, push_writes, padding_writes}
 use Rattle.rules.proofs.Lengths.{padding_writes_given}
 use Rattle.rules.specs.Judged.{lsrr_by, csr_by}
 
-pub encode_given : (a v : ℕ) → encode (given a (Given v)) ≡ write_bytes (wrote a v)
+pub encode_given : (a v : ℕ) → encode (given a (Some v)) ≡ write_bytes (wrote a v)
 encode_given a v = encode_one (wrote a v)
 
-pub encode_absent : (a : ℕ) → encode (given a Absent) ≡ []
+pub encode_absent : (a : ℕ) → encode (given a None) ≡ []
 unfolding encode
 encode_absent a = refl
 
-pub length_given : (a : ℕ) (v : Value) → length (encode (given a v)) ≡ cost v (suc (width_of a))
-length_given a (Given v) = ap length (encode_given a v) ∙ length_write (wrote a v)
-length_given a Absent = ap length (encode_absent a)
+pub length_given : (a : ℕ) (v : Option ℕ) → length (encode (given a v)) ≡ cost v (suc (width_of a))
+length_given a (Some v) = ap length (encode_given a v) ∙ length_write (wrote a v)
+length_given a None = ap length (encode_absent a)
 
-pub encode_push : (w : Write) (t p a : Value) → encode (w ∷ (given CFTW0 t ++ (given CPOW0 p ++ given ACR a))) ≡ write_bytes w ++ (encode (given CFTW0 t) ++ encode (given CPOW0 p) ++ encode (given ACR a))
+pub encode_push : (w : Write) (t p a : Option ℕ) → encode (w ∷ (given CFTW0 t ++ (given CPOW0 p ++ given ACR a))) ≡ write_bytes w ++ (encode (given CFTW0 t) ++ encode (given CPOW0 p) ++ encode (given ACR a))
 unfolding encode
 encode_push w t p a = simp (encode_append, append_assoc)
 
-pub length_push : (mode mask : ℕ) (t p a : Value) → length (encode (push_writes mode mask t p a)) ≡ push_size t p a
+pub length_push : (mode : ℕ) (p : Push) → length (encode (push_writes mode p)) ≡ push_size p
 unfolding push_writes width_of
-length_push mode mask t p a = rw (encode_push (csr mode mask) t p a) (simp (length-append, length_write, length_given) (omega arith))
+length_push mode p = rw (encode_push (csr mode p.mask) (word_of p.word) p.phase p.acr) (simp (length-append, length_write, length_given) (omega arith))
 
 pub padding_writes_bytes : (mode n : ℕ) → encode (padding_writes mode n) ≡ encode (given LSRR (lsrr_by (n % 4))) ++ encode (given CSR (csr_by mode (n % 4)))
 unfolding padding_writes
@@ -44,10 +45,10 @@ padding_writes_bytes mode n = rw (padding_writes_given mode (n % 4), encode_appe
 
 by_rest : (mode r : ℕ) → length (encode (given LSRR (lsrr_by r))) + length (encode (given CSR (csr_by mode r))) ≡ padding_by r
 unfolding width_of
-by_rest mode zero = omega (arith, length_given LSRR Absent, length_given CSR Absent)
-by_rest mode (suc zero) = omega (arith, length_given LSRR (Given 0), length_given CSR Absent)
-by_rest mode (suc (suc zero)) = omega (arith, length_given LSRR Absent, length_given CSR (csr_by mode 2))
-by_rest mode (suc (suc (suc r))) = omega (arith, length_given LSRR (Given 0), length_given CSR (csr_by mode 2))
+by_rest mode zero = omega (arith, length_given LSRR None, length_given CSR None)
+by_rest mode (suc zero) = omega (arith, length_given LSRR (Some 0), length_given CSR None)
+by_rest mode (suc (suc zero)) = omega (arith, length_given LSRR None, length_given CSR (csr_by mode 2))
+by_rest mode (suc (suc (suc r))) = omega (arith, length_given LSRR (Some 0), length_given CSR (csr_by mode 2))
 
 pub length_padding : (mode n : ℕ) → length (encode (padding_writes mode n)) ≡ padding n
 length_padding mode n = rw (padding_writes_bytes mode n, length-append) (by_rest mode (n % 4))

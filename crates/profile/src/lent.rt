@@ -1,55 +1,44 @@
-// The work, over a length and bytes that are lent: nothing is copied.
-ghost use Rattle.std.specs.Prelude.{◌≡◌};
-ghost use Rattle.profile.specs.Lent.{Pushes, Seals};
+// The work, over a length and bytes that are lent, as C lends them: nothing is copied. Methods and functions by value are thin layers over it.
+ghost use Rattle.std.specs.Prelude.{◌≡◌, length, OnOk, OnErr};
+ghost use Rattle.rules.specs.Rules.{push_judged, finalize_judged};
+ghost use Rattle.registers.specs.Refusals.{answer_of};
+ghost use Rattle.profile.specs.Serializer.{pushed, padded, handed};
+ghost use Rattle.profile.specs.Lent.{held};
 
-use crate::{Tuning, Value, lay, words};
-use registers::answer;
-use rules::judge;
+use crate::{lay, words};
+use registers::refusal::Refusal;
+use rules::{Push, judge};
 
 // Adds the writes that set a number of channels: CSR, then what is given.
-pub fn push(
-    mode: u32,
-    length: &mut usize,
-    bytes: &mut [u8; 32],
-    mask: u32,
-    tuning: Tuning,
-    phase: Value,
-    acr: Value,
-) -> u32
-    ensures { Pushes mode length.old bytes.old mask tuning phase acr result length.new bytes.new }
+#[inline(always)]
+#[tactic(auto, using(crate::proofs::Sizes::length_push))]
+pub fn push(mode: u32, len: &mut usize, bytes: &mut [u8; 32], push: Push) -> Result<(), Refusal>
+    ensures judged { result ≡ answer_of (push_judged mode len.old push) }
+    ensures pushed { OnOk result (held mode len.new bytes.new ≡ pushed (held mode len.old bytes.old) push) }
+    ensures kept { OnErr result (held mode len.new bytes.new ≡ held mode len.old bytes.old) }
 {
-    let word = judge::word(tuning);
-    let at = *length;
-    let number = judge::push(mode, at, mask, word, phase, acr);
-    if number != answer::OK {
-        return number;
-    }
-    let end = lay::push(bytes, at, mask * 16 + mode * 2, word, phase, acr);
-    *length = end;
-    answer::OK
+    judge::push(mode, *len, push)?;
+    *len = lay::push(bytes, *len, mode, push);
+    Ok(())
 }
 
-// Pads the profile and hands it out as words.
-#[tactic(auto, using(registers::proofs::Laid::laid_nil, crate::proofs::Sizes::length_padding), unfolding(crate::specs::Serializer::finalized_of))]
+// Pads the profile and hands it out as words: how many.
+#[inline(always)]
+#[tactic(auto, using(crate::proofs::Sizes::length_padding))]
 pub fn finalize(
     mode: u32,
-    length: &mut usize,
+    len: &mut usize,
     bytes: &mut [u8; 32],
     words: &mut [u32],
-    count: &mut usize,
-) -> u32
-    ensures { Seals mode length.old bytes.old words.old result length.new bytes.new count.new words.new }
+) -> Result<usize, Refusal>
+    ensures judged { result ≡ finalize_judged mode len.old (length words.old) }
+    ensures padded { OnOk result (held mode len.new bytes.new ≡ padded (held mode len.old bytes.old)) }
+    ensures handed { OnOk result (words.new ≡ handed (held mode len.old bytes.old) words.old) }
+    ensures kept { OnErr result (held mode len.new bytes.new ≡ held mode len.old bytes.old) }
+    ensures untouched { OnErr result (words.new ≡ words.old) }
 {
-    let at = *length;
-    let number = judge::finalize(mode, at, words.len());
-    if number != answer::OK {
-        *count = 0;
-        return number;
-    }
-    let n = judge::quarter(at);
-    let padded = lay::pad(bytes, at, mode);
-    words::copy(bytes, n, words);
-    *length = padded;
-    *count = n;
-    answer::OK
+    let count = judge::finalize(mode, *len, words.len())?;
+    *len = lay::pad(bytes, *len, mode);
+    words::copy(bytes, count, words);
+    Ok(count)
 }

@@ -1,116 +1,106 @@
 // The profile serializer: register writes collected in 32 bytes, to be sent as words.
 #![tactic(auto)]
 
-ghost use Rattle.std.specs.Prelude.{◌≡◌};
-ghost use Rattle.profile.specs.Serializer.{new_of, push_of, Finalizes, FeedsFrom};
+ghost use Rattle.std.specs.Prelude.{◌≡◌, length, OnOk, OnErr};
+ghost use Rattle.rules.specs.Rules.{push_judged, finalize_judged};
+ghost use Rattle.registers.specs.Refusals.{answer_of};
+ghost use Rattle.profile.specs.Serializer.{new_of, pushed, push_of, padded, handed, finalize_of, feed_judged_of, fed_of};
 
-use registers::answer;
-pub use rules::{Tuning, Value, bits, signed, size};
+use registers::refusal::Refusal;
+pub use rules::{Push, bits, signed};
 
-pub mod in_place;
 mod lay;
 pub mod lent;
 mod words;
 
-// A profile so far: the bytes below the length are meant.
-#[derive(Clone, Copy)]
+/// A profile so far: the bytes below the length are meant. An array and a length: the driver has no heap, and a record made by hand may have any length.
+#[derive(Clone, Copy, Debug, PartialEq, Eq)]
 pub struct ProfileSerializer {
     pub mode: u32,
     pub length: usize,
     pub bytes: [u8; 32],
 }
 
-// A number, and the serializer: as it was, where the number is a refusal.
+/// A step's answer (finalising's is how many words it handed out), and the serializer: as it was, where the answer is a refusal.
 #[derive(Clone, Copy)]
-pub struct Stepped {
-    pub number: u32,
+pub struct Stepped<T> {
+    pub answer: Result<T, Refusal>,
     pub serializer: ProfileSerializer,
 }
 
-// The same with how many words were handed out.
-#[derive(Clone, Copy)]
-pub struct Finalized {
-    pub number: u32,
-    pub count: usize,
-    pub serializer: ProfileSerializer,
-}
-
-// A serializer for a mode.
-pub fn new(mode: u32) -> Stepped
-    ensures { result ≡ new_of mode }
-{
-    if 3 < mode {
-        return Stepped {
-            number: answer::MODE,
-            serializer: ProfileSerializer {
-                mode: 0,
-                length: 0,
-                bytes: [0; 32],
-            },
-        };
-    }
-    Stepped {
-        number: answer::OK,
-        serializer: ProfileSerializer {
+impl ProfileSerializer {
+    /// An empty profile for a mode.
+    pub fn new(mode: u32) -> Result<ProfileSerializer, Refusal>
+        ensures { result ≡ new_of mode }
+    {
+        if 3 < mode {
+            return Err(Refusal::Mode);
+        }
+        Ok(ProfileSerializer {
             mode,
             length: 0,
             bytes: [0; 32],
-        },
+        })
+    }
+
+    /// Adds the writes that set a number of channels: CSR, then what is given.
+    pub fn push(&mut self, push: Push) -> Result<(), Refusal>
+        ensures judged { result ≡ answer_of (push_judged self.old.mode self.old.length push) }
+        ensures pushed { OnOk result (self.new ≡ pushed self.old push) }
+        ensures kept { OnErr result (self.new ≡ self.old) }
+    {
+        lent::push(self.mode, &mut self.length, &mut self.bytes, push)
+    }
+
+    /// Pads the profile and hands it out as words: how many. Pushing afterwards is allowed.
+    pub fn finalize(&mut self, words: &mut [u32]) -> Result<usize, Refusal>
+        ensures judged { result ≡ finalize_judged self.old.mode self.old.length (length words.old) }
+        ensures padded { OnOk result (self.new ≡ padded self.old) }
+        ensures handed { OnOk result (words.new ≡ handed self.old words.old) }
+        ensures kept { OnErr result (self.new ≡ self.old) }
+        ensures untouched { OnErr result (words.new ≡ words.old) }
+    {
+        lent::finalize(self.mode, &mut self.length, &mut self.bytes, words)
     }
 }
 
-// Adds the writes that set a number of channels: CSR, then what is given.
-pub fn push(
-    serializer: ProfileSerializer,
-    mask: u32,
-    tuning: Tuning,
-    phase: Value,
-    acr: Value,
-) -> Stepped
-    ensures { result ≡ push_of serializer mask tuning phase acr }
+/// A push by value, a form that the project promises beside the method: the work is `lent`'s in both.
+#[tactic(auto, unfolding(crate::specs::Serializer::push_of))]
+pub fn push(serializer: ProfileSerializer, push: Push) -> Stepped<()>
+    ensures { result ≡ push_of serializer push }
 {
-    let mode = serializer.mode;
-    let mut length = serializer.length;
-    let mut bytes = serializer.bytes;
-    let number = lent::push(mode, &mut length, &mut bytes, mask, tuning, phase, acr);
+    let mut after = serializer;
+    let answer = after.push(push);
     Stepped {
-        number,
-        serializer: ProfileSerializer {
-            mode,
-            length,
-            bytes,
-        },
+        answer,
+        serializer: after,
     }
 }
 
-// Pads the profile and hands it out as words.
-pub fn finalize(serializer: ProfileSerializer, words: &mut [u32]) -> Finalized
-    ensures { Finalizes serializer words.old result words.new }
+/// Finalising by value likewise.
+#[tactic(auto, unfolding(crate::specs::Serializer::finalized_of))]
+pub fn finalize(serializer: ProfileSerializer, words: &mut [u32]) -> Stepped<usize>
+    ensures finalized { result ≡ finalize_of serializer (length words.old) }
+    ensures handed { OnOk result.answer (words.new ≡ handed serializer words.old) }
+    ensures untouched { OnErr result.answer (words.new ≡ words.old) }
 {
-    let mode = serializer.mode;
-    let mut length = serializer.length;
-    let mut bytes = serializer.bytes;
-    let mut count = 0;
-    let number = lent::finalize(mode, &mut length, &mut bytes, words, &mut count);
-    Finalized {
-        number,
-        count,
-        serializer: ProfileSerializer {
-            mode,
-            length,
-            bytes,
-        },
+    let mut after = serializer;
+    let answer = after.finalize(words);
+    Stepped {
+        answer,
+        serializer: after,
     }
 }
 
-// Feeds the profile's bytes to an image of the chip's registers.
-pub fn feed(serializer: ProfileSerializer, image: &mut [u32]) -> u32
-    ensures { FeedsFrom serializer image.old result image.new }
+/// Feeds the profile's bytes to an image of the chip's registers.
+pub fn feed(serializer: ProfileSerializer, image: &mut [u32]) -> Result<(), Refusal>
+    ensures judged { result ≡ feed_judged_of serializer image.old }
+    ensures fed { image.new ≡ fed_of serializer image.old }
+    ensures kept { OnErr result (image.new ≡ image.old) }
 {
-    let length = serializer.length;
-    let bytes = serializer.bytes;
-    if 32 < length {
-        return answer::ROOM;
-    }
-    image::feed(&bytes[0..length], image)
+    let bytes = serializer
+        .bytes
+        .get(..serializer.length)
+        .ok_or(Refusal::Room)?;
+    image::feed(bytes, image)
 }

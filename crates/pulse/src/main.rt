@@ -3,80 +3,43 @@
 
 mod report;
 mod say;
-mod steps;
+mod script;
 mod why;
 
+use arrayvec::ArrayVec;
+use script::Script;
 use std::env::{Env, FillError};
 use std::io::{IsTerminal, Read};
 use std::process::ExitCode;
 use std::rt::Files;
 use std::{fs, io};
-use steps::State;
 
-// The mark that some editors put before a text.
-fn marked(line: &[u8]) -> bool {
-    if line.len() < 3 {
-        return false;
-    }
-    if line[0] != 0xef {
-        return false;
-    }
-    if line[1] != 0xbb {
-        return false;
-    }
-    line[2] == 0xbf
-}
-
-// A line that has ended, of at most 200 bytes.
-fn ended(rt: &impl Print, st: State, line: &[u8]) -> io::Result<State> {
-    let n = st.used;
-    let mut next = st;
-    next.used = 0;
-    next.lines = st.lines.wrapping_add(1);
-    if line.len() < n || line.len() < 40 {
-        return Ok(next);
-    }
-    if 200 < n {
-        return steps::passed_over(rt, next, &line[0..40], b"it has more than 200 bytes\n");
-    }
-    if st.lines == 0 {
-        if 3 <= n {
-            if marked(&line[0..n]) {
-                return steps::play(rt, next, &line[3..n]);
-            }
+// What has been read: each line that has ended is played. Of a line, the bytes past 201 are dropped.
+fn chunk(
+    rt: &impl Print,
+    script: &mut Script,
+    line: &mut ArrayVec<u8, 201>,
+    bytes: &[u8],
+) -> io::Result<()> {
+    for &b in bytes {
+        if b == b'\n' {
+            script.line(rt, line.as_slice())?;
+            line.clear();
+        } else {
+            let _ = line.try_push(b);
         }
     }
-    steps::play(rt, next, &line[0..n])
-}
-
-// One byte more: past the buffer's end it counts no further.
-fn byte(rt: &impl Print, st: State, b: u8, line: &mut [u8]) -> io::Result<State> {
-    if b == b'\n' {
-        return ended(rt, st, &line[..]);
-    }
-    let n = st.used;
-    let mut next = st;
-    if n < line.len() {
-        line[n] = b;
-        next.used = n + 1;
-    }
-    Ok(next)
-}
-
-fn chunk(rt: &impl Print, st: State, bytes: &[u8], line: &mut [u8]) -> io::Result<State> {
-    let mut state = st;
-    for b in bytes {
-        state = byte(rt, state, *b, line)?;
-    }
-    Ok(state)
+    Ok(())
 }
 
 // A script from its first byte to its last, each line answered as soon as it is there. Whether all of it could be read.
 fn run<I: Read>(rt: &impl Print, err: &impl Print, input: &mut I, name: &[u8]) -> io::Result<bool> {
-    let mut line = [0u8; 201];
+    let mut script = Script::new();
+    let mut line = ArrayVec::new();
+    // Of a fixed size: `Read::read` fills what it is lent.
     let mut buffer = [0u8; 4096];
-    let mut state = steps::start();
     let mut whole = true;
+    // a loop that reads has a bound, since a reader may never end
     for _ in 0..u64::MAX {
         let n = match input.read(&mut buffer) {
             Ok(n) => n,
@@ -89,13 +52,13 @@ fn run<I: Read>(rt: &impl Print, err: &impl Print, input: &mut I, name: &[u8]) -
         if n == 0 {
             break;
         }
-        state = chunk(rt, state, &buffer[..n], &mut line)?;
+        chunk(rt, &mut script, &mut line, &buffer[..n])?;
     }
     // the last line may have no end
-    if state.used != 0 {
-        state = ended(rt, state, &line)?;
+    if !line.is_empty() {
+        script.line(rt, line.as_slice())?;
     }
-    steps::close(rt, state)?;
+    script.close(rt)?;
     Ok(whole)
 }
 
@@ -107,38 +70,11 @@ fn opened<R: Files>(rt: &R, path: &[u8]) -> io::Result<R::File> {
     }
 }
 
-// Whether a script in a file could be opened and read. `some`: one has been opened before it.
-fn run_file(
-    rt: &(impl Print + Files),
-    err: &impl Print,
-    path: &[u8],
-    some: &mut bool,
-) -> io::Result<bool> {
-    match opened(rt, path) {
-        Ok(mut file) => {
-            if *some {
-                say::text(rt, b"\n")?;
-            }
-            *some = true;
-            say::plain(rt, path)?;
-            say::text(rt, b"\n")?;
-            run(rt, err, &mut file, path)
-        }
-        Err(e) => {
-            let _ = say::fail(err, path, e);
-            Ok(false)
-        }
-    }
-}
-
 // What is typed.
 fn typed(rt: &HostRuntime) -> io::Result<bool> {
     let mut input = rt.stdin();
     if input.is_terminal() {
-        say::text(
-            rt,
-            b"a step a line: mode 3, push 1 word 0x01020304, finalize; Ctrl-D ends\n",
-        )?;
+        println!(rt; "a step a line: mode 3, push 1 word 0x01020304, finalize; Ctrl-D ends")?;
     }
     run(rt, &rt.stderr(), &mut input, b"standard input")
 }
@@ -146,25 +82,35 @@ fn typed(rt: &HostRuntime) -> io::Result<bool> {
 // Every script that is named, or else what is typed. Whether all could be read.
 fn played(rt: &HostRuntime) -> io::Result<bool> {
     let err = rt.stderr();
+    // Of a fixed size: `arg` fills what it is lent.
     let mut path = [0u8; 4096];
     let mut some = false;
     let mut all = true;
+    // by their places, since std's list of them takes text alone
     for i in 1..usize::MAX {
-        match rt.arg(i, &mut path) {
-            Ok(n) => {
-                if !run_file(rt, &err, &path[..n], &mut some)? {
-                    all = false;
-                }
-            }
-            Err(FillError::NotPresent) => {
-                if i == 1 {
-                    return typed(rt);
-                }
-                return Ok(all);
-            }
+        let path = match rt.arg(i, &mut path) {
+            Ok(n) => &path[..n],
+            Err(FillError::NotPresent) if i == 1 => return typed(rt),
+            Err(FillError::NotPresent) => break,
             Err(FillError::TooLong) => {
                 // ENAMETOOLONG
                 let _ = say::fail(&err, b"an argument", io::Error::from_raw_os_error(36));
+                all = false;
+                continue;
+            }
+        };
+        match opened(rt, path) {
+            Ok(mut file) => {
+                if some {
+                    println!(rt)?;
+                }
+                some = true;
+                say::plain(rt, path)?;
+                println!(rt)?;
+                all = run(rt, &err, &mut file, path)? && all;
+            }
+            Err(e) => {
+                let _ = say::fail(&err, path, e);
                 all = false;
             }
         }

@@ -1,249 +1,163 @@
 // What a profile holds: its bytes, its words, its writes, and what the channels' registers end as.
-ghost use Rattle.std.specs.Prelude.{◌≤◌};
-
-use crate::say;
 use bitfields::{acr, csr};
 use profile::ProfileSerializer;
 use registers::address;
+use registers::write::Write;
 use std::io;
+use stream::Writes;
 
-// A channel's digit where its bit is one, and a dot where not.
-fn lamp(bits: u32, digit: u8) -> u8 {
-    if bits % 2 == 1 {
-        return digit;
-    }
-    b'.'
-}
-
-// The channels that a CSR selects.
+// The channels that a CSR selects: a channel's digit where its bit is one, and a dot where not.
 fn channels(rt: &impl Print, csr: u32) -> io::Result<()> {
-    let mask = csr::channel(csr).value;
-    let a = lamp(mask, b'0');
-    let b = lamp(mask / 2, b'1');
-    let c = lamp(mask / 4, b'2');
-    let d = lamp(mask / 8, b'3');
-    say::text(rt, &[a, b' ', b, b' ', c, b' ', d, b' ', b' '])?;
-    Ok(())
+    let mask = csr::CHANNEL.get(csr);
+    for channel in 0..4u32 {
+        if (mask >> channel) % 2 == 1 {
+            print!(rt; "{channel} ")?;
+        } else {
+            print!(rt; ". ")?;
+        }
+    }
+    print!(rt; " ")
 }
 
+// A line of each register's own, as its columns differ.
 // A write's place, register and value. A serializer writes no other registers.
-fn head(rt: &impl Print, at: u64, address: u32, value: u32) -> io::Result<()> {
-    let numbers = [at, value as u64];
+fn head(rt: &impl Print, at: usize, write: Write) -> io::Result<()> {
+    let Write { address, value } = write;
     match address {
-        address::CSR => say::form(rt, b"%r  CSR    0x%B        =  channels ", &numbers),
-        address::CFTW0 => say::form(rt, b"%r  CFTW0  0x%W  -> channels ", &numbers),
-        address::CPOW0 => say::form(rt, b"%r  CPOW0  0x%H      -> channels ", &numbers),
-        address::ACR => say::form(rt, b"%r  ACR    0x%T    -> channels ", &numbers),
-        _ => say::form(rt, b"%r  LSRR   0x%H      -> channels ", &numbers),
+        address::CSR => print!(rt; "{at:>4}  CSR    0x{value:02X}        =  channels "),
+        address::CFTW0 => print!(rt; "{at:>4}  CFTW0  0x{value:08X}  -> channels "),
+        address::CPOW0 => print!(rt; "{at:>4}  CPOW0  0x{value:04X}      -> channels "),
+        address::ACR => print!(rt; "{at:>4}  ACR    0x{value:06X}    -> channels "),
+        _ => print!(rt; "{at:>4}  LSRR   0x{value:04X}      -> channels "),
     }
 }
 
 fn amplitude(rt: &impl Print, acr: u32) -> io::Result<()> {
-    let asf = acr::asf(acr).value as u64;
-    if acr::multiplier(acr).value == 0 {
-        say::text(rt, b"full amplitude, multiplier off")?;
-        return Ok(());
+    if acr::MULTIPLIER.get(acr) == 0 {
+        return print!(rt; "full amplitude, multiplier off");
     }
-    let share = (asf * 10000 + 512) / 1024;
-    say::form(rt, b"amplitude 0.%q, %d of 1024", &[share, asf])?;
-    Ok(())
+    let asf = acr::ASF.get(acr);
+    let share = (asf as u64 * 10000 + 512) / 1024;
+    print!(rt; "amplitude 0.{share:04}, {asf} of 1024")
 }
 
 // What a register's value means, to the nearest last digit.
-fn meaning(rt: &impl Print, address: u32, value: u32) -> io::Result<()> {
-    let v = value as u64;
-    match address {
+fn meaning(rt: &impl Print, write: Write) -> io::Result<()> {
+    let value = write.value;
+    match write.address {
         address::CSR => {
-            let mask = csr::channel(value).value as u64;
-            let mode = csr::mode(value).value as u64;
-            say::form(rt, b"mask %d, mode %d", &[mask, mode])
+            let mask = csr::CHANNEL.get(value);
+            let mode = csr::MODE.get(value);
+            print!(rt; "mask {mask}, mode {mode}")
         }
         address::CFTW0 => {
-            let billionths = v * 1000000000;
-            let next = (billionths % 4294967296 * 10 + 2147483648) / 4294967296;
-            let share = billionths / 4294967296 * 10 + next;
-            say::form(rt, b"0.%m of the system clock", &[share])
+            let share = (value as u128 * 10_000_000_000 + 0x8000_0000) / 0x1_0000_0000;
+            print!(rt; "0.{share:010} of the system clock")
         }
         address::CPOW0 => {
-            let degrees = (v % 16384 * 36000 + 8192) / 16384;
-            say::form(rt, b"%d.%p degrees", &[degrees / 100, degrees])
+            let degrees = (value as u64 % 16384 * 36000 + 8192) / 16384;
+            print!(rt; "{}.{:02} degrees", degrees / 100, degrees % 100)
         }
         address::ACR => amplitude(rt, value),
-        _ => say::text(rt, b"ramp rate 0, to the last push's channels alone"),
+        _ => print!(rt; "ramp rate 0, to the last push's channels alone"),
     }
-}
-
-fn write(
-    rt: &impl Print,
-    at: u64,
-    address: u32,
-    value: u32,
-    csr: u32,
-    padding: bool,
-) -> io::Result<()> {
-    head(rt, at, address, value)?;
-    channels(rt, csr)?;
-    if padding {
-        say::text(rt, b"padding: ")?;
-    }
-    meaning(rt, address, value)?;
-    say::text(rt, b"\n")?;
-    Ok(())
-}
-
-// How many bytes a register's value takes.
-fn width(address: u32) -> usize
-    ensures { result ≤ 4 }
-{
-    let w = address::width(address);
-    if 4 < w {
-        return 4;
-    }
-    w
-}
-
-fn marked(padding: &[u8; 32], at: usize) -> bool {
-    if at < 32 {
-        return padding[at] == 1;
-    }
-    false
 }
 
 // Each write, with the channels that it lands on.
-fn writes(
-    rt: &impl Print,
-    addresses: &[u32; 16],
-    values: &[u32; 16],
-    count: usize,
-    padding: &[u8; 32],
-) -> io::Result<()> {
+fn writes(rt: &impl Print, bytes: &[u8], padding: &[bool; 32]) -> io::Result<()> {
+    println!(rt; "\n\n  at  write")?;
     let mut at: usize = 0;
     let mut csr: u32 = 0;
-    for i in 0..16usize {
-        if count <= i {
-            return Ok(());
+    for write in Writes::new(bytes) {
+        let Ok(write) = write else { break };
+        if write.address == address::CSR {
+            csr = write.value;
         }
-        let a = addresses[i];
-        let v = values[i];
-        if a == address::CSR {
-            csr = v;
+        head(rt, at, write)?;
+        channels(rt, csr)?;
+        if padding.get(at) == Some(&true) {
+            print!(rt; "padding: ")?;
         }
-        write(rt, at as u64, a, v, csr, marked(padding, at))?;
-        at = at + 1 + width(a);
+        meaning(rt, write)?;
+        println!(rt)?;
+        let width = address::width(write.address);
+        at = at.saturating_add(1).saturating_add(width);
     }
     Ok(())
 }
 
-// A register by a form, where both images hold the same, and else what stands for none.
-fn cell(rt: &impl Print, value: u32, other: u32, given: &[u8], none: &[u8]) -> io::Result<()> {
-    if value == other {
-        say::form(rt, given, &[value as u64])?;
-    } else {
-        say::text(rt, none)?;
+// A register in so many digits, or a dash where nothing wrote it, in a column.
+fn cell(rt: &impl Print, value: Option<u32>, digits: usize) -> io::Result<()> {
+    match value {
+        Some(value) => print!(rt; "0x{value:0digits$X}  "),
+        None => print!(rt; "-{:digits$}   ", ""),
     }
-    Ok(())
-}
-
-// A channel's registers, CFR first.
-fn row(rt: &impl Print, channel: u64, zeros: &[u32], ones: &[u32]) -> io::Result<()> {
-    if zeros.len() < 5 {
-        return Ok(());
-    }
-    if ones.len() < 5 {
-        return Ok(());
-    }
-    say::form(rt, b"   %r  ", &[channel])?;
-    cell(rt, zeros[1], ones[1], b"0x%W  ", b"-           ")?;
-    cell(rt, zeros[2], ones[2], b"0x%H  ", b"-       ")?;
-    cell(rt, zeros[3], ones[3], b"0x%T  ", b"-         ")?;
-    cell(rt, zeros[4], ones[4], b"0x%H\n", b"-\n")?;
-    Ok(())
 }
 
 // What the registers end as. Fed to zeros and to ones alike, only what is written ends the same.
-fn ends(rt: &impl Print, s: ProfileSerializer) -> io::Result<()> {
+fn ends(rt: &impl Print, serializer: ProfileSerializer) -> io::Result<()> {
+    // Two images: `feed` fills what it is lent.
     let mut zeros = [0u32; 91];
     let mut ones = [0xffff_ffffu32; 91];
-    profile::feed(s, &mut zeros);
-    profile::feed(s, &mut ones);
-    say::text(
-        rt,
-        b"\nchannel  CFTW0       CPOW0   ACR       LSRR      (-: not written, stays as it was)\n",
+    let _ = profile::feed(serializer, &mut zeros);
+    let _ = profile::feed(serializer, &mut ones);
+    let written = |at: usize| zeros
+        .get(at)
+        .copied()
+        .filter(|zero| ones.get(at) == Some(zero));
+    println!(rt;
+        "\nchannel  CFTW0       CPOW0   ACR       LSRR      (-: not written, stays as it was)"
     )?;
-    row(rt, 0, &zeros[3..25], &ones[3..25])?;
-    row(rt, 1, &zeros[25..47], &ones[25..47])?;
-    row(rt, 2, &zeros[47..69], &ones[47..69])?;
-    row(rt, 3, &zeros[69..91], &ones[69..91])?;
-    cell(rt, zeros[0], ones[0], b"CSR ends as 0x%B\n\n", b"\n")?;
-    Ok(())
-}
-
-fn byte(rt: &impl Print, b: u8) -> io::Result<()> {
-    say::form(rt, b" %B", &[b as u64])?;
-    Ok(())
-}
-
-fn bytes(rt: &impl Print, s: &[u8]) -> io::Result<()> {
-    for b in s {
-        byte(rt, *b)?;
+    // By number: it is shown, and the image's stride goes by it.
+    for channel in 0..4usize {
+        // a channel's registers, CFR first
+        let cfr = 3 + channel * 22;
+        print!(rt; "   {channel:>4}  ")?;
+        cell(rt, written(cfr + 1), 8)?;
+        cell(rt, written(cfr + 2), 4)?;
+        cell(rt, written(cfr + 3), 6)?;
+        match written(cfr + 4) {
+            Some(lsrr) => println!(rt; "0x{lsrr:04X}")?,
+            None => println!(rt; "-")?,
+        }
     }
-    Ok(())
-}
-
-fn word(rt: &impl Print, w: u32) -> io::Result<()> {
-    say::form(rt, b" 0x%W", &[w as u64])?;
-    Ok(())
+    match written(0) {
+        Some(csr) => println!(rt; "CSR ends as 0x{csr:02X}\n"),
+        None => println!(rt),
+    }
 }
 
 // The words, where the length is a multiple of 4: finalizing adds nothing then.
-fn words(rt: &impl Print, s: ProfileSerializer) -> io::Result<()> {
-    let length = s.length;
+fn words(rt: &impl Print, serializer: ProfileSerializer) -> io::Result<()> {
+    let length = serializer.length;
     if length % 4 != 0 {
-        say::form(
-            rt,
-            b" none yet: %d is no multiple of 4, and finalize pads it",
-            &[length as u64],
-        )?;
-        return Ok(());
+        return print!(rt; " none yet: {length} is no multiple of 4, and finalize pads it");
     }
+    // `finalize` fills what it is lent, and no profile takes more than eight words.
     let mut words = [0u32; 8];
-    let f = profile::finalize(s, &mut words);
-    for w in words.iter().take(f.count) {
-        word(rt, *w)?;
+    let finalized = profile::finalize(serializer, &mut words);
+    for word in words.iter().take(finalized.answer.unwrap_or(0)) {
+        print!(rt; " 0x{word:08X}")?;
     }
     Ok(())
 }
 
-fn stream(rt: &impl Print, bytes: &[u8], padding: &[u8; 32]) -> io::Result<()> {
-    let mut addresses = [0u32; 16];
-    let mut values = [0u32; 16];
-    let t = stream::decode(bytes, &mut addresses, &mut values);
-    say::text(rt, b"\n\n  at  write\n")?;
-    writes(rt, &addresses, &values, t.count, padding)?;
-    Ok(())
-}
-
-fn whole(rt: &impl Print, s: ProfileSerializer, all: &[u8], padding: &[u8; 32]) -> io::Result<()> {
-    let length = s.length;
-    if all.len() < length {
-        return Ok(());
+/// All that a profile holds, and which of its bytes finalizing added.
+pub fn report(
+    rt: &impl Print,
+    serializer: ProfileSerializer,
+    padding: &[bool; 32],
+) -> io::Result<()> {
+    let bytes = match serializer.bytes.get(..serializer.length) {
+        Some(bytes) if !bytes.is_empty() => bytes,
+        _ => return println!(rt; "\nno bytes and no words\n"),
+    };
+    print!(rt; "\nbytes ")?;
+    for byte in bytes {
+        print!(rt; " {byte:02X}")?;
     }
-    if length == 0 {
-        say::text(rt, b"\nno bytes and no words\n\n")?;
-        return Ok(());
-    }
-    say::text(rt, b"\nbytes ")?;
-    bytes(rt, &all[0..length])?;
-    say::text(rt, b"\nwords ")?;
-    words(rt, s)?;
-    stream(rt, &all[0..length], padding)?;
-    ends(rt, s)?;
-    Ok(())
-}
-
-// All that a profile holds: a byte is padding where its mark is 1.
-pub fn report(rt: &impl Print, s: ProfileSerializer, padding: &[u8; 32]) -> io::Result<()> {
-    let all = s.bytes;
-    whole(rt, s, &all, padding)?;
-    Ok(())
+    print!(rt; "\nwords ")?;
+    words(rt, serializer)?;
+    writes(rt, bytes, padding)?;
+    ends(rt, serializer)
 }

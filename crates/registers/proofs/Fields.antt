@@ -4,7 +4,8 @@
 --     stays_above   what lies above it stays
 --     set_get       setting what is there changes nothing
 --     set_lt        a word that fits some bits fits them still
---     too_wide      a value too wide is Word, and zero
+--     too_wide      a value too wide is Word
+--     set_of_fits   what is set in a field of a register fits the register
 --     fits_out      no value fits a field that does not lie within 32 bits
 --     fits_within   a value fits one that does if it is below 2 ^ width
 --     get_past, get_wide   a field past 32 bits, or as wide
@@ -18,7 +19,9 @@ use lib.Arith.{digits_lt}
 use lib.Pow.{pow_pos, pow_mono, pow-add, split, high, low, field, mod-mod-pow, mod-pow-add, shr-shr, shr_lt}
 use borrow.Author.Tests.{le-ltb, le-leb, lt-leb}
 use Rattle.registers.specs.declared.field.Field.{Field}
-use Rattle.registers.specs.Answers.{Word, refused}
+use Rattle.std.proofs.Common.{Ok, Err, rules, refl, Bool, true, cond}
+use Rattle.registers.proofs.Widths.{bytes_bits}
+use Rattle.registers.specs.declared.refusal.Refusal.TheVariants.{Word}
 use Rattle.registers.specs.Fields.{field_of, with_field, fits_field, set_of}
 
 -- ---- over a position p and a width n, with the word's part above the field a, and below it l
@@ -91,6 +94,21 @@ module _ (w : ℕ) (f : Field) (v : ℕ) (h : v < 2 ^ f.width) where
       rw (add_assoc (w / 2 ^ t * 2 ^ t) (v * 2 ^ f.position) (w % 2 ^ f.position))
       (rw (← pow-add 2 (m - t) t, e) at (digits_lt high_lt (tail (w / 2 ^ t) f.position f.width v (w % 2 ^ f.position) h beneath)))
 
+fits_parts : (f : Field) (v : ℕ) → fits_field f v ≡ true → (v < 2 ^ f.width) × (f.position + f.width ≤ 32)
+fits_parts f v t = search rules
+
+-- a value of so many bytes has so many with a field set
+pub set_of_fits : (m w : ℕ) (f : Field) (v r : ℕ) → set_of w f v ≡ Ok r → w < 256 ^ m → f.position + f.width ≤ 8 * m → r < 256 ^ m
+unfolding with_field
+set_of_fits m w f v r e h k = by (fits_field f v) refl e
+  where
+    by : (b : Bool) → fits_field f v ≡ b → cond b (Ok (with_field w f v)) (Err Word) ≡ Ok r → r < 256 ^ m
+    by true t i =
+        let fits = fits_parts f v t in
+        let same : with_field w f v ≡ r = cc in
+        rw (← same, bytes_bits m) (set_lt w f v fits.0 (8 * m) (rw bytes_bits at h) k)
+    by false t i = cc
+
 pub set_get : (w : ℕ) (f : Field) → with_field w f (field_of w f) ≡ w
 unfolding field_of with_field
 set_get w f =
@@ -99,7 +117,7 @@ set_get w f =
     ∙ ap (λ (m : ℕ). w / 2 ^ t * 2 ^ t + m) (sym (mod-pow-add w f.width f.position) ∙ ap (λ (k : ℕ). w % 2 ^ k) (add_comm f.width f.position))
     ∙ split w t
 
-pub too_wide : (w : ℕ) (f : Field) (v : ℕ) → 2 ^ f.width ≤ v → set_of w f v ≡ refused Word
+pub too_wide : (w : ℕ) (f : Field) (v : ℕ) → 2 ^ f.width ≤ v → set_of w f v ≡ Err Word
 too_wide w f v h = rw (le-ltb v (2 ^ f.width) h)
 
 pub fits_out : (f : Field) (v : ℕ) → 32 < f.position + f.width → false ≡ fits_field f v

@@ -1,9 +1,9 @@
 -- A field of a word, by position and width. Definitions only.
-use Rattle.std.specs.Prelude.{ℕ, ◌+◌, ◌-◌, ◌*◌, ◌/◌, ◌%◌, ◌^◌, Bool, ◌&&◌, cond, leb, ltb}
-use Rattle.registers.specs.declared.answer.Answer.{Answer}
+use Rattle.std.specs.Prelude.{ℕ, ◌+◌, ◌-◌, ◌*◌, ◌/◌, ◌%◌, ◌^◌, Bool, ◌&&◌, Result, Ok, Err, cond, leb, ltb}
 use Rattle.registers.specs.declared.field.Field.{Field}
-use Rattle.registers.specs.Answers.{Word, refused, accepted}
-use Rattle.registers.specs.Registers.{holds}
+use Rattle.registers.specs.declared.refusal.Refusal.{Refusal}
+use Rattle.registers.specs.declared.refusal.Refusal.TheVariants.{Word}
+use Rattle.registers.specs.Registers.{width_of, holds}
 
 -- bits low..high, as the data sheet writes them
 abbrev pub bits : ℕ → ℕ → Field
@@ -27,16 +27,24 @@ abbrev pub fits_field : Field → ℕ → Bool
 fits_field f value = ltb value (2 ^ f.width) && leb (f.position + f.width) 32
 
 -- a value too wide is Word
-abbrev pub set_of : ℕ → Field → ℕ → Answer
-set_of word f value = cond (fits_field f value) (accepted (with_field word f value)) (refused Word)
+abbrev pub set_of : ℕ → Field → ℕ → Result ℕ Refusal
+set_of word f value = cond (fits_field f value) (Ok (with_field word f value)) (Err Word)
 
 -- a field of a register: a raw value too wide for its register is Word
-abbrev pub get_in : ℕ → ℕ → Field → Answer
-get_in address raw f = cond (holds address raw) (accepted (field_of raw f)) (refused Word)
+abbrev pub get_in : ℕ → ℕ → Field → Result ℕ Refusal
+get_in address raw f = cond (holds address raw) (Ok (field_of raw f)) (Err Word)
 
-abbrev pub set_in : ℕ → ℕ → Field → ℕ → Answer
-set_in address raw f value = cond (holds address raw) (set_of raw f value) (refused Word)
+abbrev pub set_in : ℕ → ℕ → Field → ℕ → Result ℕ Refusal
+set_in address raw f value = cond (holds address raw) (set_of raw f value) (Err Word)
 
 -- a raw value of a register, taken as it is
-abbrev pub raw_in : ℕ → ℕ → Answer
-raw_in address raw = cond (holds address raw) (accepted raw) (refused Word)
+abbrev pub raw_in : ℕ → ℕ → Result ℕ Refusal
+raw_in address raw = cond (holds address raw) (Ok raw) (Err Word)
+
+-- a field lies within its register
+abbrev pub lies_in : ℕ → Field → Bool
+lies_in address f = leb (f.position + f.width) (8 * width_of address)
+
+-- a field of a register's value: one that does not lie within the register is Word, and so is a value too wide for it
+abbrev pub with_in : ℕ → ℕ → Field → ℕ → Result ℕ Refusal
+with_in address raw f value = cond (lies_in address f) (set_of raw f value) (Err Word)

@@ -1,4 +1,4 @@
-pub mod Answers
+pub mod Refusals
 pub mod Registers
 pub mod Fields
 pub mod Bytes

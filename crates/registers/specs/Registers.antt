@@ -1,5 +1,6 @@
 -- Document 01, "Registers and fields": the addresses, and the widths in bytes. Definitions only.
 use Rattle.std.specs.Prelude.{ℕ, ◌-◌, ◌^◌, Bool, List, ◌∷◌, ltb, get_or, replicate}
+use Rattle.registers.specs.declared.write
 
 abbrev pub CSR : ℕ
 CSR = 0x00
@@ -55,9 +56,8 @@ abbrev pub holds : ℕ → ℕ → Bool
 holds address value = ltb value (256 ^ width_of address)
 
 -- a register write
-pub record Write : Type 0 where
-  pub address : ℕ
-  pub value : ℕ
+abbrev pub Write : Type 0
+Write = write.Write.Write
 
 abbrev pub wrote : ℕ → ℕ → Write
 wrote a v = record { address = a; value = v }

@@ -1,4 +1,5 @@
-// The registers' addresses, under the Rust's names, and their widths.
+// The registers' addresses, under the Rust's names, and their widths. They are numbers and no enum: `width`, `largest` and `holds`, like the
+// encoder and the bus, answer every u32, and an enum would ask more of who calls them.
 ghost use Rattle.std.specs.Prelude.{◌≤◌, ◌≡◌};
 ghost use Rattle.registers.specs.Registers.{width_of, largest_of, holds};
 
@@ -81,7 +82,8 @@ const WIDTHS: [u8; 25] = [
     4, // CW15
 ];
 
-// How many bytes the register at an address has: none above 0x18.
+// How many bytes the register at an address has: none above 0x18. 0 and no `None`, since `width_of`, `largest` and `holds` go on with it.
+#[tactic(auto, unfolding(crate::specs::Registers::width_of))]
 pub fn width(address: u32) -> usize
     ensures { result ≡ width_of address }
 {

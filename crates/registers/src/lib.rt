@@ -1,12 +1,14 @@
-// The AD9959's registers: addresses, widths, fields, and the numbers that come back.
+// The AD9959's registers: addresses, widths, fields, and why a call is refused.
 #![tactic(auto)]
 
 ghost use Rattle.std.specs.Prelude.{◌^◌, ◌<◌, ◌≤◌, ◌≡◌};
 
 pub mod address;
-pub mod answer;
 pub mod big_endian;
 pub mod field;
+pub mod refusal;
+pub mod register;
+pub mod write;
 
 // 2^k.
 fn power(k: u32) -> u64

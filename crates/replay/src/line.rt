@@ -1,103 +1,79 @@
 // A line's numbers, in hexadecimal with blanks between them.
+ghost use Rattle.std.specs.Prelude.{◌<◌, IfSome};
 
-// The numbers of the line so far, the digits of the next, and the lines before.
+/// The numbers of a line, as its bytes come.
+#[derive(Drop)]
+pub struct Line {
+    // where a line leaves numbers out, those of the lines before it stand
+    numbers: [u32; 128],
+    count: usize,
+    // the number whose digits are being read
+    open: Option<u32>,
+}
+
+// 0 and no `None` behind the last: every reader would take it for 0.
+/// The numbers of a line, one after another: 0 behind the last.
 #[derive(Clone, Copy)]
-pub struct Scan {
-    pub count: usize,
-    pub value: u32,
-    pub open: bool,
-    pub lines: u32,
-    pub differ: u32,
+pub struct Numbers<'a> {
+    rest: &'a [u32],
 }
 
-pub fn start() -> Scan {
-    Scan {
-        count: 0,
-        value: 0,
-        open: false,
-        lines: 0,
-        differ: 0,
+impl Line {
+    pub fn new() -> Line {
+        Line {
+            numbers: [0; 128],
+            count: 0,
+            open: None,
+        }
     }
-}
 
-// A place so far behind another. A line is short of 1000 numbers.
-pub fn behind(i: usize, by: usize) -> usize {
-    if 1000 < i {
-        return 1000;
+    /// Whether a byte ends a line that has numbers. Of a number eight digits count.
+    pub fn ends_at(&mut self, c: u8) -> bool {
+        if let Some(digit) = digit(c) {
+            let value = self.open.unwrap_or(0);
+            self.open = Some(value % 0x1000_0000 * 16 + digit);
+            return false;
+        }
+        if let Some(value) = self.open.take() {
+            if let Some(place) = self.numbers.get_mut(self.count) {
+                *place = value;
+            }
+            self.count = self.count.saturating_add(1);
+        }
+        c == b'\n' && self.count != 0
     }
-    if 1000 < by {
-        return 1000;
+
+    pub fn numbers(&self) -> Numbers<'_> {
+        Numbers {
+            rest: &self.numbers,
+        }
     }
-    i + by
-}
 
-// The number at a place; none is 0.
-pub fn at(numbers: &[u32], i: usize) -> u32 {
-    if i < numbers.len() {
-        return numbers[i];
-    }
-    0
-}
-
-pub fn after(numbers: &[u32], i: usize, by: usize) -> u32 {
-    at(numbers, behind(i, by))
-}
-
-fn put(numbers: &mut [u32], i: usize, value: u32) {
-    if i < numbers.len() {
-        numbers[i] = value;
+    /// The next line.
+    pub fn clear(&mut self) {
+        self.count = 0;
     }
 }
 
-// A digit's value, 16 for any other byte.
-fn digit(c: u8) -> u32 {
-    if b'0' <= c && c <= b'9' {
-        return (c - b'0') as u32;
-    }
-    if b'a' <= c && c <= b'f' {
-        return (c - b'a') as u32 + 10;
-    }
-    16
-}
-
-// What a number's end leaves: its place in the line.
-fn closed(scan: Scan, numbers: &mut [u32]) -> usize {
-    if scan.open {
-        put(numbers, scan.count, scan.value);
-        return behind(scan.count, 1);
-    }
-    scan.count
-}
-
-// Eight digits count.
-pub fn byte(scan: Scan, c: u8, numbers: &mut [u32]) -> Scan {
-    let d = digit(c);
-    if d < 16 {
-        return Scan {
-            count: scan.count,
-            value: scan.value % 0x1000_0000 * 16 + d,
-            open: true,
-            lines: scan.lines,
-            differ: scan.differ,
-        };
-    }
-    Scan {
-        count: closed(scan, numbers),
-        value: 0,
-        open: false,
-        lines: scan.lines,
-        differ: scan.differ,
+impl Numbers<'_> {
+    pub fn next(&mut self) -> u32 {
+        match self.rest {
+            [first, rest @ ..] => {
+                self.rest = rest;
+                *first
+            }
+            [] => 0,
+        }
     }
 }
 
-// The next line, after one that was as it should be or not.
-pub fn ended(scan: Scan, good: bool) -> Scan {
-    let differ = scan.differ % 0x1000_0000;
-    Scan {
-        count: 0,
-        value: 0,
-        open: false,
-        lines: scan.lines % 0x1000_0000 + 1,
-        differ: if good { differ } else { differ + 1 },
+// std's digits take capitals too.
+fn digit(c: u8) -> Option<u32>
+    ensures { IfSome result (λ digit. digit < 16) }
+{
+    match c {
+        b'0'..=b'9' => Some((c - b'0') as u32),
+        b'a'..=b'f' => Some((c - b'a') as u32 + 10),
+        _ => None,
     }
 }

@@ -7,44 +7,41 @@ mod line;
 mod profiles;
 mod sequences;
 
-use line::Scan;
+use line::{Line, Numbers};
 use std::io;
 use std::io::Read;
 
-fn said(rt: &impl Print, before: &[u8], n: u32, after: &[u8]) -> io::Result<()> {
-    rt.write_all(before)?;
-    print!(rt; "{n}")?;
-    rt.write_all(after)
+// The lines so far, and how many differ.
+#[derive(Drop)]
+struct Count {
+    lines: u32,
+    differ: u32,
 }
 
-// Whether the port gives what a line says.
-fn same(numbers: &[u32]) -> bool {
-    let kind = line::at(numbers, 0);
-    if kind == 5 {
-        return profiles::same(numbers);
+// The kind is matched once, on the line's number: an enum would be made of it here and taken apart at once.
+// Whether the port gives what a line says. Its first number is its kind.
+fn same(mut numbers: Numbers) -> bool {
+    match numbers.next() {
+        1 => sequences::started(numbers),
+        2 => sequences::transferred(numbers),
+        3 => sequences::tested(numbers),
+        4 => sequences::read(numbers),
+        5 => profiles::played(numbers),
+        _ => false,
     }
-    sequences::same(kind, numbers)
 }
 
-// What a byte adds: a digit, the end of a number, or the end of a line.
-fn step(rt: &impl Print, scan: Scan, c: u8, numbers: &mut [u32]) -> io::Result<Scan> {
-    let next = line::byte(scan, c, numbers);
-    if c != b'\n' || next.count == 0 {
-        return Ok(next);
+impl Count {
+    // One line more.
+    fn play(&mut self, rt: &impl Print, numbers: Numbers) -> io::Result<()> {
+        let good = same(numbers);
+        self.lines = self.lines % 0x1000_0000 + 1;
+        self.differ = self.differ % 0x1000_0000 + !good as u32;
+        if good {
+            return Ok(());
+        }
+        println!(rt; "line {} differs", self.lines)
     }
-    let good = same(&numbers[..]);
-    if !good {
-        said(rt, b"line ", next.lines % 0x1000_0000 + 1, b" differs\n")?;
-    }
-    Ok(line::ended(next, good))
-}
-
-fn chunk(rt: &impl Print, scan: Scan, bytes: &[u8], numbers: &mut [u32]) -> io::Result<Scan> {
-    let mut state = scan;
-    for c in bytes {
-        state = step(rt, state, *c, numbers)?;
-    }
-    Ok(state)
 }
 
 // Reads until the buffer is full or the input ends: how much was read.
@@ -57,24 +54,32 @@ fn fill<I: Read>(input: &mut I, buffer: &mut [u8]) -> io::Result<usize>
         if got == 0 {
             break;
         }
-        n = n + got;
+        n += got;
     }
     Ok(n)
 }
 
 fn main(rt: HostRuntime) -> io::Result<()> {
-    let mut numbers = [0u32; 128];
-    let mut buffer = [0u8; 4096];
     let mut input = rt.stdin();
-    let mut state = line::start();
+    // Of a fixed size: `Read::read` fills what it is lent.
+    let mut buffer = [0u8; 4096];
+    let mut line = Line::new();
+    let mut count = Count {
+        lines: 0,
+        differ: 0,
+    };
+    // it stops after so much input, as it always did
     for _ in 0..1000000 {
         let n = fill(&mut input, &mut buffer)?;
         if n == 0 {
-            said(&rt, b"", state.lines, b" lines, ")?;
-            said(&rt, b"", state.differ, b" differ\n")?;
-            return Ok(());
+            return println!(rt; "{} lines, {} differ", count.lines, count.differ);
         }
-        state = chunk(&rt, state, &buffer[..n], &mut numbers)?;
+        for &c in &buffer[..n] {
+            if line.ends_at(c) {
+                count.play(&rt, line.numbers())?;
+                line.clear();
+            }
+        }
     }
     Ok(())
 }

@@ -14,10 +14,7 @@ use native.Mathlib.Omega.{arith}
 use borrow.Author.Tests.{ltb-false}
 use lib.IntN.{pos, negsuc}
 use Rattle.registers.specs.Registers.{width_of, CSR, CFTW0, LSRR}
-use Rattle.rules.specs.declared.Tuning.{Tuning}
-use Rattle.rules.specs.declared.Tuning.TheVariants.{Tune, Keep}
-use Rattle.rules.specs.declared.Value.{Value}
-use Rattle.rules.specs.declared.Value.TheVariants.{Given, Absent}
+use Rattle.std.specs.Prelude.{Some, None, ℤ, Option}
 use Rattle.rules.specs.Rules.{word_of, above, padding_by, padding, given, padding_writes_by}
 use Rattle.rules.specs.Judged.{Held, lsrr_by, csr_by}
 
@@ -50,12 +47,12 @@ padding_writes_given mode (suc zero) = refl
 padding_writes_given mode (suc (suc zero)) = refl
 padding_writes_given mode (suc (suc (suc r))) = refl
 
-pub held_below : (a most : ℕ) (v : Value) → above most v ≡ false → most < 256 ^ width_of a → Held a v
-held_below a most (Given v) e h = lt_of_le_of_lt (ltb-false most v e) h
-held_below a most Absent e h = tt
+pub held_below : (a most : ℕ) (v : Option ℕ) → above most v ≡ false → most < 256 ^ width_of a → Held a v
+held_below a most (Some v) e h = lt_of_le_of_lt (ltb-false most v e) h
+held_below a most None e h = tt
 
-pub word_held : (tuning : Tuning) → Held CFTW0 (word_of tuning)
+pub word_held : (tuning : Option ℤ) → Held CFTW0 (word_of tuning)
 unfolding width_of
-word_held (Tune (pos n)) = omega arith
-word_held (Tune (negsuc n)) = omega arith
-word_held Keep = tt
+word_held (Some (pos n)) = omega arith
+word_held (Some (negsuc n)) = omega arith
+word_held None = tt

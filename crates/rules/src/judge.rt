@@ -1,74 +1,47 @@
-// What a step gives back.
-ghost use Rattle.std.specs.Prelude.{◌≡◌, ◌+◌, ◌*◌, ◌≤◌};
+// When a step is refused, and what it needs where it is not.
+// The limits are the rules' own numbers: CPOW0 has two bits more than a phase.
+ghost use Rattle.std.specs.Prelude.{◌≡◌, ◌+◌, ◌*◌, OnOk, IfOk};
 ghost use Rattle.registers.specs.Registers.{CFTW0};
-ghost use Rattle.rules.specs.Rules.{word_of, cost, push_size, above, padding, quarter};
-ghost use Rattle.rules.specs.Judged.{Held, PushJudged, FinalizeJudged};
+ghost use Rattle.rules.specs.Rules.{word_of, push_judged, finalize_judged, padding, quarter, above};
+ghost use Rattle.rules.specs.Judged.{Held, Fits, Pads};
 
-use crate::{Tuning, Value};
-use registers::answer;
+use crate::Push;
+use registers::refusal::Refusal;
 
-pub fn word(tuning: Tuning) -> Value
+// A tuning word as its register's word.
+pub fn word(tuning: Option<i32>) -> Option<u32>
     ensures value { result ≡ word_of tuning }
     ensures held { Held CFTW0 result }
 {
-    match tuning {
-        Tuning::Tune(z) => Value::Given(crate::bits(z)),
-        Tuning::Keep => Value::Absent,
-    }
+    tuning.map(crate::bits)
 }
 
-fn cost(value: Value, size: usize) -> usize
-    ensures value { result ≡ cost value size }
-    ensures within { result ≤ size }
-{
-    match value {
-        Value::Given(_v) => size,
-        Value::Absent => 0,
-    }
-}
-
-// How many bytes a push takes.
-pub fn size(word: Value, phase: Value, acr: Value) -> usize
-    ensures value { result ≡ push_size word phase acr }
-    ensures within { result ≤ 14 }
-{
-    2 + cost(word, 5) + cost(phase, 3) + cost(acr, 4)
-}
-
-fn above(most: u32, value: Value) -> bool
+fn above(most: u32, value: Option<u32>) -> bool
     ensures { result ≡ above most value }
 {
-    match value {
-        Value::Given(v) => most < v,
-        Value::Absent => false,
-    }
+    value.is_some_and(|v| most < v)
 }
 
-// The number of a push. Of Ok it is known besides what the push goes on to need.
-#[tactic(auto, using(crate::proofs::Lengths::held_below), unfolding(crate::specs::Rules::push_number, registers::specs::Registers::width_of))]
-pub fn push(mode: u32, length: usize, mask: u32, word: Value, phase: Value, acr: Value) -> u32
-    ensures { PushJudged mode length mask word phase acr result }
+// The length behind a push, or why it is refused.
+#[tactic(auto, using(crate::proofs::Lengths::held_below), unfolding(crate::specs::Rules::push_judged, registers::specs::Registers::width_of))]
+pub fn push(mode: u32, length: usize, push: Push) -> Result<usize, Refusal>
+    ensures judged { result ≡ push_judged mode length push }
+    ensures fits { OnOk result (Fits mode length push) }
 {
     if 3 < mode {
-        return answer::MODE;
+        return Err(Refusal::Mode);
     }
-    if 15 < mask {
-        return answer::MASK;
+    if 15 < push.mask {
+        return Err(Refusal::Mask);
     }
-    if above(16383, phase) {
-        return answer::WORD;
+    if above(16383, push.phase) || above(16777215, push.acr) {
+        return Err(Refusal::Word);
     }
-    if above(16777215, acr) {
-        return answer::WORD;
+    let size = push.size();
+    if 32 - size < length || length + size == 31 {
+        return Err(Refusal::Room);
     }
-    let size = size(word, phase, acr);
-    if 32 - size < length {
-        return answer::ROOM;
-    }
-    if length + size == 31 {
-        return answer::ROOM;
-    }
-    answer::OK
+    Ok(length + size)
 }
 
 // How many words a profile takes once it is padded: none, one, one or two more by the length modulo 4.
@@ -79,22 +52,21 @@ pub fn quarter(length: usize) -> usize
     length / 4 + (length % 4 + 1) / 2
 }
 
-// The number of a finalising. Of Ok it is known besides what finalising goes on to need.
-#[tactic(auto, using(crate::proofs::Lengths::padding_fits), unfolding(crate::specs::Rules::finalize_number))]
-pub fn finalize(mode: u32, length: usize, words: usize) -> u32
-    ensures { FinalizeJudged mode length words result }
+// How many words finalising hands out, or why it is refused.
+#[tactic(auto, using(crate::proofs::Lengths::padding_fits), unfolding(crate::specs::Rules::finalize_judged))]
+pub fn finalize(mode: u32, length: usize, words: usize) -> Result<usize, Refusal>
+    ensures judged { result ≡ finalize_judged mode length words }
+    ensures pads { IfOk result (Pads mode length words) }
 {
     if 3 < mode {
-        return answer::MODE;
+        return Err(Refusal::Mode);
     }
-    if 32 < length {
-        return answer::ROOM;
+    if 32 < length || length == 31 {
+        return Err(Refusal::Room);
     }
-    if length == 31 {
-        return answer::ROOM;
+    let count = quarter(length);
+    if words < count {
+        return Err(Refusal::Room);
     }
-    if words < quarter(length) {
-        return answer::ROOM;
-    }
-    answer::OK
+    Ok(count)
 }

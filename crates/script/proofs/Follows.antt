@@ -4,16 +4,17 @@
 --     run_length   at most 32 bytes are meant
 --     run_bytes    the record keeps its 32 bytes
 -- Along a run some good writes are kept in mind: their encoding is the stream so far, and applied to the image they give what has been told so far.
-use mathlib.Core.Path.{◌≡◌, refl, ap, ◌∙◌}
+use mathlib.Core.Path.{◌≡◌, refl, sym, ap, ◌∙◌}
 use mathlib.Core.Bool.{Bool, true, false, cond, ◌||◌, true≢false}
 use mathlib.Core.List.{List, [], ◌∷◌, ◌++◌}
 use Prim.Native.Nat.{ℕ, zero, suc, ◌+◌, ◌%◌, ◌≤◌, ◌<◌}
-use native.Mathlib.Nat.{suc-ne-zero}
 use native.Mathlib.Omega.{arith}
-use borrow.Author.Tests.{ltb-false, le-ltb, eqb-true, eqb-false}
+use borrow.Author.Tests.{ltb-false, le-ltb, eqb-false}
 use lib.Dec.{eqb, ltb, lit<}
 use lib.ListN.{length, take, replicate}
-use Rattle.registers.specs.Answers.{Ok}
+use Rattle.std.specs.Prelude.{Option, Some, None, Result, Ok, Err, is_ok}
+use Rattle.registers.specs.declared.refusal.Refusal.{Refusal}
+use Rattle.registers.specs.declared.refusal.Refusal.TheVariants.{Mask, Mode, Word, Room}
 use Rattle.registers.specs.Registers.{Write, width_of, CFTW0, CPOW0, ACR}
 use Rattle.registers.specs.Bytes.{laid}
 use Rattle.registers.proofs.Laid.{length_laid, laid_below}
@@ -25,24 +26,27 @@ use Rattle.image.specs.Image.{selected, select, apply}
 use Rattle.image.specs.Feed.{feed_of}
 use Rattle.image.proofs.Images.{length_apply, apply_append, selected_give, selected_select}
 use Rattle.profile.specs.declared.ProfileSerializer.{ProfileSerializer}
-use Rattle.rules.specs.declared.Value.{Value}
-use Rattle.rules.specs.declared.Value.TheVariants.{Given, Absent}
-use Rattle.rules.specs.Rules.{word_of, push_size, quarter, full, above, push_number, finalize_number, given, push_writes, padding_writes_by, padding_writes}
-use Rattle.profile.specs.Serializer.{new_of, push_of, finalized_of, grown, stream_of}
+use Rattle.registers.specs.Refusals.{answer_of}
+use Rattle.rules.specs.Rules.{word_of, push_size, quarter, full, above, push_judged, finalize_judged, given, push_writes, padding_writes_by, padding_writes}
+use Rattle.profile.specs.Serializer.{fresh, push_of, finalized_of, grown, stream_of}
 use Rattle.profile.specs.Lent.{held}
 use Rattle.rules.specs.Judged.{Held}
 use Rattle.profile.proofs.Sizes.{length_push, length_padding}
 use Rattle.rules.proofs.Lengths.{padding_fits, held_below, word_held}
 use Rattle.script.specs.declared.Step.{Step}
 use Rattle.script.specs.declared.Step.TheVariants.{Push, Finalize}
-use Rattle.script.specs.Meaning.{Told, gives, padded_by, number_at, size_at, effect_at, tell, tell_all, meaning}
+use Rattle.script.specs.Meaning.{Told, gives, padded_by, answer_at, size_at, effect_at, tell, tell_all, meaning}
 use Rattle.script.specs.Runs.{step_of, run}
 
 -- ---- tests that did not refuse
 
-clear : (b : Bool) (k r : ℕ) → cond b (suc k) r ≡ 0 → (b ≡ false) × (r ≡ 0)
-clear true k r e = absurd (suc-ne-zero k e)
-clear false k r e = (refl, e)
+clear : {A : Type 0} (b : Bool) (e : Refusal) (r : Result A Refusal) → is_ok (cond b (Err e) r) ≡ true → (b ≡ false) × (is_ok r ≡ true)
+clear true e r h = absurd (true≢false (sym h))
+clear false e r h = (refl, h)
+
+answered : {A : Type 0} (r : Result A Refusal) → is_ok (answer_of r) ≡ is_ok r
+answered (Ok x) = refl
+answered (Err e) = refl
 
 neither : (a b : Bool) → a || b ≡ false → (a ≡ false) × (b ≡ false)
 neither true b e = absurd (true≢false e)
@@ -58,33 +62,33 @@ good_append : (xs ys : List Write) → Good xs → Good ys → Good (xs ++ ys)
 good_append [] ys g h = h
 good_append (w ∷ xs) ys g h = (g.0, g.1, good_append xs ys g.2 h)
 
-good_given : (a : ℕ) (v : Value) → a < 25 → Held a v → Good (given a v)
-good_given a (Given v) h k = (h, k, tt)
-good_given a Absent h k = tt
+good_given : (a : ℕ) (v : Option ℕ) → a < 25 → Held a v → Good (given a v)
+good_given a (Some v) h k = (h, k, tt)
+good_given a None h k = tt
 
-apply_given : (mask a : ℕ) (v : Value) (image : List ℕ) → 3 ≤ a → selected image ≡ mask → apply (given a v) image ≡ gives mask a v image
-apply_given mask a (Given v) image h e = rw (le-ltb a 3 h, e)
-apply_given mask a Absent image h e = refl
+apply_given : (mask a : ℕ) (v : Option ℕ) (image : List ℕ) → 3 ≤ a → selected image ≡ mask → apply (given a v) image ≡ gives mask a v image
+apply_given mask a (Some v) image h e = rw (le-ltb a 3 h, e)
+apply_given mask a None image h e = refl
 
-selected_gives : (mask a : ℕ) (v : Value) (image : List ℕ) → 3 ≤ a → selected image ≡ mask → selected (gives mask a v image) ≡ mask
-selected_gives mask a (Given v) image h e = selected_give mask a v image h ∙ e
-selected_gives mask a Absent image h e = e
+selected_gives : (mask a : ℕ) (v : Option ℕ) (image : List ℕ) → 3 ≤ a → selected image ≡ mask → selected (gives mask a v image) ≡ mask
+selected_gives mask a (Some v) image h e = selected_give mask a v image h ∙ e
+selected_gives mask a None image h e = e
 
 -- ---- one step
 
 abbrev writes_at : ℕ → ℕ → Step → List Write
-writes_at mode n (Push mask tuning phase acr) = push_writes mode mask (word_of tuning) phase acr
+writes_at mode n (Push p) = push_writes mode p
 writes_at mode n (Finalize words) = padding_writes mode n
 
 step_is : (mode n : ℕ) (bs : List ℕ) (step : Step)
-    → step_of (held mode n bs) step ≡ cond (eqb (number_at mode n step) Ok) (grown (held mode n bs) (size_at mode n step) (writes_at mode n step)) (held mode n bs)
-unfolding step_of push_of finalized_of number_at size_at
-step_is mode n bs (Push mask tuning phase acr) = refl
-step_is mode n bs (Finalize words) = refl
+    → step_of (held mode n bs) step ≡ cond (is_ok (answer_at mode n step)) (grown (held mode n bs) (size_at mode n step) (writes_at mode n step)) (held mode n bs)
+unfolding step_of push_of finalized_of answer_at size_at
+step_is mode n bs (Push p) = rw (answered (push_judged mode n p))
+step_is mode n bs (Finalize words) = rw (answered (finalize_judged mode n words))
 
 size_is : (mode n : ℕ) (step : Step) → length (encode (writes_at mode n step)) ≡ size_at mode n step
 unfolding size_at
-size_is mode n (Push mask tuning phase acr) = length_push mode mask (word_of tuning) phase acr
+size_is mode n (Push p) = length_push mode p
 size_is mode n (Finalize words) = length_padding mode n
 
 module _ (mode : ℕ) (legal : mode ≤ 3) where
@@ -102,41 +106,41 @@ module _ (mode : ℕ) (legal : mode ≤ 3) where
   padding_does (suc (suc (suc r))) image = refl
 
   -- an accepted step's writes can be encoded, and the length stays within 32
-  accepted : (n : ℕ) (step : Step) → number_at mode n step ≡ 0 → Good (writes_at mode n step) × (n + size_at mode n step ≤ 32)
-  unfolding number_at size_at push_number finalize_number push_writes padding_writes width_of
-  accepted n (Push mask tuning phase acr) e =
-      let m = n + push_size (word_of tuning) phase acr in
-      let c₁ = clear (ltb 3 mode) 6 _ e in
-      let c₂ = clear (ltb 15 mask) 5 _ c₁.1 in
-      let c₃ = clear (above 16383 phase || above 16777215 acr) 7 _ c₂.1 in
-      let c₄ = clear (full 32 m) 8 0 c₃.1 in
-      let f = neither (above 16383 phase) (above 16777215 acr) c₃.0 in
-      let h = ltb-false 15 mask c₂.0 in (
+  accepted : (n : ℕ) (step : Step) → is_ok (answer_at mode n step) ≡ true → Good (writes_at mode n step) × (n + size_at mode n step ≤ 32)
+  unfolding answer_at size_at push_judged finalize_judged push_writes padding_writes width_of
+  accepted n (Push p) e =
+      let m = n + push_size p in
+      let c₁ = clear (ltb 3 mode) Mode _ (sym (answered (push_judged mode n p)) ∙ e) in
+      let c₂ = clear (ltb 15 p.mask) Mask _ c₁.1 in
+      let c₃ = clear (above 16383 p.phase || above 16777215 p.acr) Word _ c₂.1 in
+      let c₄ = clear (full 32 m) Room (Ok m) c₃.1 in
+      let f = neither (above 16383 p.phase) (above 16777215 p.acr) c₃.0 in
+      let h = ltb-false 15 p.mask c₂.0 in (
         (
           omega arith,
           omega arith,
-          good_append (given CFTW0 (word_of tuning)) _ (good_given CFTW0 (word_of tuning) (omega arith) (word_held tuning))
-              (good_append (given CPOW0 phase) _ (good_given CPOW0 phase (omega arith) (held_below CPOW0 16383 phase f.0 (lit< tt)))
-              (good_given ACR acr (omega arith) (held_below ACR 16777215 acr f.1 (lit< tt)))),
+          good_append (given CFTW0 (word_of p.word)) _ (good_given CFTW0 (word_of p.word) (omega arith) (word_held p.word))
+              (good_append (given CPOW0 p.phase) _ (good_given CPOW0 p.phase (omega arith) (held_below CPOW0 16383 p.phase f.0 (lit< tt)))
+              (good_given ACR p.acr (omega arith) (held_below ACR 16777215 p.acr f.1 (lit< tt)))),
         ),
         ltb-false 32 m (neither (eqb (m + 1) 32) (ltb 32 m) c₄.0).1,
       )
   accepted n (Finalize words) e =
-      let c = clear (full 32 n || ltb words (quarter n)) 8 0 (clear (ltb 3 mode) 6 _ e).1 in
+      let c = clear (full 32 n || ltb words (quarter n)) Room _ (clear (ltb 3 mode) Mode _ (sym (answered (finalize_judged mode n words)) ∙ e)).1 in
       let f = neither (eqb (n + 1) 32) (ltb 32 n) (neither (full 32 n) (ltb words (quarter n)) c.0).0 in
       (padding_good (n % 4), padding_fits 32 n refl (ltb-false 32 n f.1) (eqb-false (n + 1) 32 f.0))
 
   effective : (n : ℕ) (step : Step) (image : List ℕ) → 0 < length image → apply (writes_at mode n step) image ≡ effect_at mode n step image
   unfolding push_writes padding_writes effect_at
-  effective n (Push mask tuning phase acr) image l =
-      let i₀ = select mode mask image in
-      let i₁ = gives mask CFTW0 (word_of tuning) i₀ in
-      let e₀ = selected_select mode mask image l legal in
-      let e₁ = selected_gives mask CFTW0 (word_of tuning) i₀ (omega arith) e₀ in
-      let e₂ = selected_gives mask CPOW0 phase i₁ (omega arith) e₁ in
-      apply_append (given CFTW0 (word_of tuning)) _ i₀
-      ∙ rw (apply_given mask CFTW0 (word_of tuning) i₀ (omega arith) e₀, apply_append (given CPOW0 phase) (given ACR acr) i₁, apply_given mask CPOW0 phase i₁ (omega arith) e₁)
-      (apply_given mask ACR acr _ (omega arith) e₂)
+  effective n (Push p) image l =
+      let i₀ = select mode p.mask image in
+      let i₁ = gives p.mask CFTW0 (word_of p.word) i₀ in
+      let e₀ = selected_select mode p.mask image l legal in
+      let e₁ = selected_gives p.mask CFTW0 (word_of p.word) i₀ (omega arith) e₀ in
+      let e₂ = selected_gives p.mask CPOW0 p.phase i₁ (omega arith) e₁ in
+      apply_append (given CFTW0 (word_of p.word)) _ i₀
+      ∙ rw (apply_given p.mask CFTW0 (word_of p.word) i₀ (omega arith) e₀, apply_append (given CPOW0 p.phase) (given ACR p.acr) i₁, apply_given p.mask CPOW0 p.phase i₁ (omega arith) e₁)
+      (apply_given p.mask ACR p.acr _ (omega arith) e₂)
   effective n (Finalize words) image l = padding_does (n % 4) image
 
   -- ---- the whole script
@@ -151,7 +155,7 @@ module _ (mode : ℕ) (legal : mode ≤ 3) where
       short : x.length ≤ 32
       told : apply ws image₀ ≡ x.image
 
-    extend : (bs : List ℕ) (x : Told) (step : Step) → Agree bs x → number_at mode x.length step ≡ 0
+    extend : (bs : List ℕ) (x : Told) (step : Step) → Agree bs x → is_ok (answer_at mode x.length step) ≡ true
         → Agree (laid bs x.length (encode (writes_at mode x.length step)))
         (record { length = x.length + size_at mode x.length step; image = effect_at mode x.length step x.image })
     extend bs x step r e =
@@ -176,29 +180,28 @@ module _ (mode : ℕ) (legal : mode ≤ 3) where
     follow P f [] bs x r = f bs x r
     follow P f (step ∷ steps) bs x r =
         rw (step_is mode x.length bs step)
-        (both (λ (s : ProfileSerializer) (y : Told). P (run s steps) (tell_all mode y steps)) (eqb (number_at mode x.length step) Ok)
-        (λ t. follow P f steps _ _ (extend bs x step r (eqb-true (number_at mode x.length step) Ok t))) (follow P f steps bs x r))
+        (both (λ (s : ProfileSerializer) (y : Told). P (run s steps) (tell_all mode y steps)) (is_ok (answer_at mode x.length step))
+        (λ t. follow P f steps _ _ (extend bs x step r t)) (follow P f steps bs x r))
 
     from_new : (P : ProfileSerializer → Told → Type 0) → ((bs : List ℕ) (x : Told) → Agree bs x → P (held mode x.length bs) x)
-        → (steps : List Step) → P (run (new_of mode).serializer steps) (tell_all mode (record { length = 0; image = image₀ }) steps)
+        → (steps : List Step) → P (run (fresh mode) steps) (tell_all mode (record { length = 0; image = image₀ }) steps)
     unfolding encode
     from_new P f steps =
-        rw (le-ltb 3 mode legal)
-        (follow P f steps (replicate 32 0) (record { length = 0; image = image₀ })
-        (record { ws = []; good = tt; stream = refl; room = refl; short = omega arith; told = refl }))
+        follow P f steps (replicate 32 0) (record { length = 0; image = image₀ })
+        (record { ws = []; good = tt; stream = refl; room = refl; short = omega arith; told = refl })
 
-pub script : (mode : ℕ) (steps : List Step) (image : List ℕ) → mode ≤ 3 → 91 ≤ length image → feed_of (stream_of (run (new_of mode).serializer steps)) image ≡ meaning mode steps image
+pub script : (mode : ℕ) (steps : List Step) (image : List ℕ) → mode ≤ 3 → 91 ≤ length image → feed_of (stream_of (run (fresh mode) steps)) image ≡ meaning mode steps image
 script mode steps image h l =
     from_new mode h image (omega arith) (λ (s : ProfileSerializer) (x : Told). feed_of (stream_of s) image ≡ x.image)
     (λ bs x r. rw (r.stream, decode_encode r.ws r.good, le-ltb (length image) 91 l) r.told) steps
 
-pub decodes : (mode : ℕ) (steps : List Step) → mode ≤ 3 → (decode_of (stream_of (run (new_of mode).serializer steps))).number ≡ 0
+pub decodes : (mode : ℕ) (steps : List Step) → mode ≤ 3 → (ws : List Write) × (decode_of (stream_of (run (fresh mode) steps)) ≡ Ok ws)
 decodes mode steps h =
-    from_new mode h (0 ∷ []) (omega arith) (λ (s : ProfileSerializer) (x : Told). (decode_of (stream_of s)).number ≡ 0)
-    (λ bs x r. rw (r.stream, decode_encode r.ws r.good)) steps
+    from_new mode h (0 ∷ []) (omega arith) (λ (s : ProfileSerializer) (x : Told). (ws : List Write) × (decode_of (stream_of s) ≡ Ok ws))
+    (λ bs x r. (r.ws, rw r.stream (decode_encode r.ws r.good))) steps
 
-pub run_length : (mode : ℕ) (steps : List Step) → mode ≤ 3 → (run (new_of mode).serializer steps).length ≤ 32
+pub run_length : (mode : ℕ) (steps : List Step) → mode ≤ 3 → (run (fresh mode) steps).length ≤ 32
 run_length mode steps h = from_new mode h (0 ∷ []) (omega arith) (λ (s : ProfileSerializer) (x : Told). s.length ≤ 32) (λ bs x r. r.short) steps
 
-pub run_bytes : (mode : ℕ) (steps : List Step) → mode ≤ 3 → length (run (new_of mode).serializer steps).bytes ≡ 32
+pub run_bytes : (mode : ℕ) (steps : List Step) → mode ≤ 3 → length (run (fresh mode) steps).bytes ≡ 32
 run_bytes mode steps h = from_new mode h (0 ∷ []) (omega arith) (λ (s : ProfileSerializer) (x : Told). length s.bytes ≡ 32) (λ bs x r. r.room) steps

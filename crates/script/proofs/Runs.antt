@@ -1,16 +1,21 @@
 -- A run of the code is a run of the definitions.
 --     calls_run    calls that did what their contracts say end at the record that the steps' run gives
 --     fed          what `profile::feed` gives and leaves, on the serializer that a run reaches
+--     made         what `ProfileSerializer::new` gave
 --     code_means   so what `new`, calls of `push` and `finalize` and then `feed` leave in an image is the steps' meaning, and feeding is not refused
-use mathlib.Core.Path.{◌≡◌, refl, ap, subst, ◌∙◌}
+use mathlib.Core.Path.{◌≡◌, refl, ap, ◌∙◌}
 use mathlib.Core.List.{List}
 use Prim.Native.Nat.{ℕ, ◌≤◌}
-use borrow.Author.Tests.{le-ltb}
+use borrow.Author.Tests.{le-ltb, ltb-false}
+use lib.Dec.{ltb}
 use lib.ListN.{length}
+use mathlib.Core.Bool.{Bool, true, false, cond}
+use Rattle.std.specs.Prelude.{Result, Ok, Err}
+use Rattle.registers.specs.declared.refusal.Refusal.{Refusal}
+use Rattle.registers.specs.declared.refusal.Refusal.TheVariants.{Mode}
 use Rattle.profile.specs.declared.ProfileSerializer.{ProfileSerializer}
 use Rattle.profile.specs.declared.Stepped.{Stepped}
-use Rattle.profile.specs.declared.Finalized.{Finalized}
-use Rattle.profile.specs.Serializer.{new_of, FeedsFrom}
+use Rattle.profile.specs.Serializer.{fresh, new_of, feed_judged_of, fed_of}
 use Rattle.script.specs.declared.Step.{Step}
 use Rattle.script.specs.Meaning.{meaning}
 use Rattle.script.specs.Runs.{step_of, run, Calls, none, pushed, finalized}
@@ -19,17 +24,27 @@ use Rattle.script.proofs.Follows.{script, decodes, run_length}
 pub calls_run : {steps : List Step} {s e : ProfileSerializer} → Calls steps s e → e ≡ run s steps
 unfolding step_of
 calls_run none = refl
-calls_run (pushed {steps = steps} r q c) = calls_run c ∙ ap (λ (x : Stepped). run x.serializer steps) q
-calls_run (finalized {steps = steps} words words' r f c) = calls_run c ∙ ap (λ (x : Finalized). run x.serializer steps) f.answer
+calls_run (pushed {steps = steps} r q c) = calls_run c ∙ ap (λ (x : Stepped Unit). run x.serializer steps) q
+calls_run (finalized {steps = steps} words r q c) = calls_run c ∙ ap (λ (x : Stepped ℕ). run x.serializer steps) q
 
-pub fed : (mode : ℕ) (steps : List Step) (image : List ℕ) {number : ℕ} {image' : List ℕ} → mode ≤ 3 → 91 ≤ length image
-    → FeedsFrom (run (new_of mode).serializer steps) image number image' → (number ≡ 0) × (image' ≡ meaning mode steps image)
-fed mode steps image h l f =
-    let e = le-ltb 32 (run (new_of mode).serializer steps).length (run_length mode steps h) in
-    (rw (e, le-ltb (length image) 91 l, decodes mode steps h) at f.number, rw e at f.after ∙ script mode steps image h l)
+pub fed : (mode : ℕ) (steps : List Step) (image : List ℕ) → mode ≤ 3 → 91 ≤ length image
+    → (feed_judged_of (run (fresh mode) steps) image ≡ Ok tt) × (fed_of (run (fresh mode) steps) image ≡ meaning mode steps image)
+fed mode steps image h l =
+    let e = le-ltb 32 (run (fresh mode) steps).length (run_length mode steps h) in
+    let d = decodes mode steps h in
+    (rw (e, le-ltb (length image) 91 l, d.1), rw e (script mode steps image h l))
 
-pub code_means : (mode : ℕ) (steps : List Step) (image : List ℕ) (r : Stepped) (e : ProfileSerializer) (number : ℕ) (image' : List ℕ) → mode ≤ 3 → 91 ≤ length image
-    → r ≡ new_of mode → Calls steps r.serializer e → FeedsFrom e image number image' → (number ≡ 0) × (image' ≡ meaning mode steps image)
-code_means mode steps image r e number image' h l q c f =
-    let k : e ≡ run (new_of mode).serializer steps = calls_run c ∙ ap (λ (x : Stepped). run x.serializer steps) q in
-    fed mode steps image h l (subst (λ (x : ProfileSerializer). FeedsFrom x image number image') k f)
+-- a new serializer is made in a mode of at most 3 alone, and is empty
+pub made : (mode : ℕ) (s : ProfileSerializer) → new_of mode ≡ Ok s → (mode ≤ 3) × (s ≡ fresh mode)
+made mode s q = go (ltb 3 mode) refl q
+  where
+    go : (b : Bool) → ltb 3 mode ≡ b → ◌≡◌ {A = Result ProfileSerializer Refusal} (cond b (Err Mode) (Ok (fresh mode))) (Ok s) → (mode ≤ 3) × (s ≡ fresh mode)
+    go true e q = absurd (cc)
+    go false e q = (ltb-false 3 mode e, cc)
+
+pub code_means : (mode : ℕ) (steps : List Step) (image : List ℕ) (s e : ProfileSerializer) (answer : Result (Unit {0}) Refusal) (image' : List ℕ) → 91 ≤ length image
+    → new_of mode ≡ Ok s → Calls steps s e → answer ≡ feed_judged_of e image → image' ≡ fed_of e image → (answer ≡ Ok tt) × (image' ≡ meaning mode steps image)
+code_means mode steps image s e answer image' l q c a i =
+    let m = made mode s q in
+    let f = fed mode steps image m.0 l in
+    (a ∙ rw (calls_run c, m.1) f.0, i ∙ rw (calls_run c, m.1) f.1)

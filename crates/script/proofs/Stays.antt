@@ -7,22 +7,20 @@ use mathlib.Core.Bool.{not}
 use mathlib.Core.List.{List, [], ◌∷◌}
 use Prim.Native.Nat.{ℕ, zero, suc, ◌+◌, ◌*◌, ◌%◌, ◌<◌}
 use native.Mathlib.Omega.{arith}
-use borrow.Author.Tests.{eqb-true}
 use lib.Dec.{T, eqb}
 use lib.ListN.{get_or}
 use lib.Seq.{get_or-set_other}
 use Rattle.registers.proofs.Choice.{by}
-use Rattle.registers.specs.Answers.{Ok}
+use Rattle.std.specs.Prelude.{Option, Some, None, is_ok}
 use Rattle.registers.specs.Registers.{CSR, CFTW0, CPOW0, ACR, LSRR}
 use Rattle.bitfields.specs.Csr.{byte_of}
 use Rattle.image.specs.Image.{reaches, give, selected, select}
 use Rattle.image.proofs.Images.{nor, apart, misses, give_stays}
-use Rattle.rules.specs.declared.Value.{Value}
-use Rattle.rules.specs.declared.Value.TheVariants.{Given, Absent}
 use Rattle.rules.specs.Rules.{word_of}
+use Rattle.script.proofs.Accepted.{accepted_is}
 use Rattle.script.specs.declared.Step.{Step}
 use Rattle.script.specs.declared.Step.TheVariants.{Push, Finalize}
-use Rattle.script.specs.Meaning.{gives, padded_by, Told, number_at, effect_at, tell, tell_all, meaning, touches_by, touches, Spared, SparedBy}
+use Rattle.script.specs.Meaning.{gives, padded_by, Told, answer_at, effect_at, tell, tell_all, meaning, touches_by, touches, Spared, SparedBy}
 
 -- a mask of all channels reaches each channel's LSRR
 lsrr_reached : (i : ℕ) → i < 4 → T (not (reaches 4 15 LSRR (22 * i + LSRR))) → ⊥
@@ -39,9 +37,9 @@ module _ (j : ℕ) where
   select_stays : (mode mask : ℕ) (image : List ℕ) → j ≢ CSR → Same j image (select mode mask image)
   select_stays mode mask image z = get_or-set_other image CSR j (byte_of mode mask) 0 z
 
-  gives_stays : (mask a : ℕ) (v : Value) (image : List ℕ) → T (not (touches_by mask a v j)) → Same j image (gives mask a v image)
-  gives_stays mask a (Given v) image t = give_stays 4 mask a v image j t
-  gives_stays mask a Absent image t = refl
+  gives_stays : (mask a : ℕ) (v : Option ℕ) (image : List ℕ) → T (not (touches_by mask a v j)) → Same j image (gives mask a v image)
+  gives_stays mask a (Some v) image t = give_stays 4 mask a v image j t
+  gives_stays mask a None image t = refl
 
   lsrr_stays : (image : List ℕ) → T (not (reaches 4 15 LSRR j)) → Same j image (give (selected image) LSRR 0 image)
   lsrr_stays image t = give_stays 4 (selected image) LSRR 0 image j (misses 4 (selected image) LSRR j (λ i h e. lsrr_reached i h (rw e at t)))
@@ -54,11 +52,11 @@ module _ (j : ℕ) where
 
   effect_stays : (mode n : ℕ) (step : Step) (image : List ℕ) → T (not (touches step j)) → Same j image (effect_at mode n step image)
   unfolding effect_at touches
-  effect_stays mode n (Push mask tuning phase acr) image t =
+  effect_stays mode n (Push p) image t =
       let h₀ = nor (eqb j CSR) _ t in
-      let h₁ = nor (touches_by mask CFTW0 (word_of tuning) j) _ h₀.1 in
-      let h₂ = nor (touches_by mask CPOW0 phase j) (touches_by mask ACR acr j) h₁.1 in
-      gives_stays mask ACR acr _ h₂.1 ∙ gives_stays mask CPOW0 phase _ h₂.0 ∙ gives_stays mask CFTW0 (word_of tuning) _ h₁.0 ∙ select_stays mode mask image (apart j CSR h₀.0)
+      let h₁ = nor (touches_by p.mask CFTW0 (word_of p.word) j) _ h₀.1 in
+      let h₂ = nor (touches_by p.mask CPOW0 p.phase j) (touches_by p.mask ACR p.acr j) h₁.1 in
+      gives_stays p.mask ACR p.acr _ h₂.1 ∙ gives_stays p.mask CPOW0 p.phase _ h₂.0 ∙ gives_stays p.mask CFTW0 (word_of p.word) _ h₁.0 ∙ select_stays mode p.mask image (apart j CSR h₀.0)
   effect_stays mode n (Finalize words) image t = let h = nor (eqb j CSR) (reaches 4 15 LSRR j) t in padded_stays mode (n % 4) image (apart j CSR h.0) h.1
 
   tells_stay : (mode : ℕ) (steps : List Step) (x : Told) → SparedBy mode j x steps → Same j x.image (tell_all mode x steps).image
@@ -66,8 +64,8 @@ module _ (j : ℕ) where
   tells_stay mode [] x h = refl
   tells_stay mode (step ∷ steps) x h =
       tells_stay mode steps (tell mode x step) h.1
-      ∙ by (λ (y : Told). Same j x.image y.image) (eqb (number_at mode x.length step) Ok)
-      (λ t. effect_stays mode x.length step x.image (h.0 (eqb-true (number_at mode x.length step) Ok t))) (λ _. refl)
+      ∙ by (λ (y : Told). Same j x.image y.image) (is_ok (answer_at mode x.length step))
+      (λ t. effect_stays mode x.length step x.image (h.0 (accepted_is _ t))) (λ _. refl)
 
   spares : (mode : ℕ) (steps : List Step) (x : Told) → Spared j steps → SparedBy mode j x steps
   spares mode [] x h = tt

@@ -1,5 +1,5 @@
 -- A buffer of more than eight words is as good as one of eight.
---     enough_words       the number is the same
+--     enough_words       the answer is the same
 --     enough_finalized   and so is the record
 use mathlib.Core.Path.{◌≡◌, refl, sym, ap, ◌∙◌}
 use mathlib.Core.Bool.{Bool, true, false, cond, ◌||◌}
@@ -7,9 +7,10 @@ use Prim.Native.Nat.{ℕ, ◌+◌, ◌≤◌, min}
 use native.Mathlib.Omega.{arith}
 use lib.Dec.{ltb, eqb}
 use borrow.Author.Tests.{ltb-true, ltb-false, eqb-false, le-ltb, lt-ltb}
-use Rattle.registers.specs.Answers.{Mode, Room, Ok}
+use Rattle.std.specs.Prelude.{Ok, Err}
+use Rattle.registers.specs.declared.refusal.Refusal.TheVariants.{Mode, Room}
 use Rattle.profile.specs.declared.ProfileSerializer.{ProfileSerializer}
-use Rattle.rules.specs.Rules.{padding, quarter, finalize_number}
+use Rattle.rules.specs.Rules.{padding, quarter, finalize_judged}
 use Rattle.profile.specs.Serializer.{finalized_of}
 use Rattle.rules.proofs.Lengths.{padding_fits}
 
@@ -21,9 +22,9 @@ few n words h = go (ltb words (quarter n)) refl
     go true e = let l = ltb-true words (quarter n) e in lt-ltb (min words 8) (quarter n) (omega arith) ∙ sym e
     go false e = let l = ltb-false words (quarter n) e in le-ltb (min words 8) (quarter n) (omega arith) ∙ sym e
 
-pub enough_words : (mode n words : ℕ) → finalize_number mode n (min words 8) ≡ finalize_number mode n words
-unfolding finalize_number
-enough_words mode n words = ap (λ (b : Bool). cond (ltb 3 mode) Mode (cond b Room Ok)) (go (eqb (n + 1) 32) (ltb 32 n) refl refl)
+pub enough_words : (mode n words : ℕ) → finalize_judged mode n (min words 8) ≡ finalize_judged mode n words
+unfolding finalize_judged
+enough_words mode n words = ap (λ (b : Bool). cond (ltb 3 mode) (Err Mode) (cond b (Err Room) (Ok (quarter n)))) (go (eqb (n + 1) 32) (ltb 32 n) refl refl)
   where
     go : (a b : Bool) → eqb (n + 1) 32 ≡ a → ltb 32 n ≡ b → a || b || ltb (min words 8) (quarter n) ≡ a || b || ltb words (quarter n)
     go true b e f = refl

@@ -1,14 +1,11 @@
 -- Document 01, the self test. Definitions only.
-use Rattle.std.specs.Prelude.{ℕ, ◌+◌, ◌/◌, ◌%◌, Bool, false, ◌&&◌, ◌||◌, not, cond, List, [], ◌∷◌, eqb}
-use Rattle.registers.specs.Answers.{Ok}
+use Rattle.std.specs.Prelude.{ℕ, ◌+◌, ◌/◌, ◌%◌, Bool, true, false, not, cond, List, [], ◌∷◌, eqb, get_or, Option, Some, None, Result, Ok}
+use Rattle.registers.specs.declared.refusal.Refusal.{Refusal}
 use Rattle.registers.specs.Registers.{CSR, holds}
 use Rattle.bus.specs.declared.Action.{Action}
 use Rattle.bus.specs.declared.Action.TheVariants.{Write, Read}
-use Rattle.bus.specs.declared.Reply.{Reply}
-use Rattle.bus.specs.Bus.{fault_of}
-use Rattle.bus.specs.Sequence.{Sequence, action, after}
+use Rattle.bus.specs.Sequence.{Plan, next}
 use Rattle.self_test.specs.declared.SelfTest.{SelfTest}
-use Rattle.self_test.specs.declared.Tested.{Tested}
 
 -- read CSR; write it with channels 15; read; write it with channels 0; read; write the old byte
 abbrev pub table : ℕ → List Action
@@ -28,28 +25,21 @@ kept_of step v old = cond (eqb step 0) v old
 abbrev pub ended : SelfTest → SelfTest
 ended s = record { step = 6; old = s.old }
 
+-- a read whose channel bits differ ends it with false, and the good reply to the restoring write with true
+abbrev pub judge : SelfTest → ℕ → Result (Option Bool) Refusal
+judge s v = cond (differs s.step v) (Ok (Some false)) (cond (eqb s.step 5) (Ok (Some true)) (Ok None))
+
 -- an old byte out of range counts as ended
-abbrev pub sequence : Sequence SelfTest
-sequence = record {
+abbrev pub plan : Plan SelfTest Bool
+plan = record {
   legal = λ s. holds CSR s.old;
   step = λ s. s.step;
   table = λ s. table s.old;
-  stops = λ s v. differs s.step v;
-  onward = λ s v. record { step = s.step + 1; old = kept_of s.step v s.old };
+  judge = judge;
+  onward = λ s v. record { step = next s.step; old = kept_of s.step v s.old };
   ended = ended;
 }
 
-abbrev pub action_of : SelfTest → Action
-action_of = action sequence
-
--- done with a differing read or with the good reply to the restoring write, and passed with that alone; a differing read ends it with Ok and false
-unfoldable pub reply_of : SelfTest → Reply → Tested
-reply_of s r =
-    let fault = fault_of (action_of s) r in
-    let differ = differs s.step r.value in
-    record {
-      number = fault;
-      done = eqb fault Ok && (differ || eqb s.step 5);
-      passed = eqb fault Ok && (not differ && eqb s.step 5);
-      sequence = after sequence s r;
-    }
+-- the table of the byte that is read first, where that is still to come
+abbrev pub table_of : SelfTest → List ℕ → List Action
+table_of s vs = table (cond (eqb s.step 0) (get_or vs 0 0) s.old)

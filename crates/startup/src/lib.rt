@@ -2,13 +2,17 @@
 #![tactic(auto)]
 
 ghost use Rattle.std.specs.Prelude.{◌≡◌};
-ghost use Rattle.startup.specs.Startup.{new_of, legal, word, action_of, judge, kept_of, at, result_of, ended_of, reply_of};
+ghost use Rattle.startup.specs.Startup.{new_of, clock, csr, legal, word, plan, table_of};
+ghost use Rattle.startup.specs.Laws.{follows};
 
 use bitfields::{csr, fr1};
-use bus::{Action, IO_UPDATE, RESET, Reply};
+use bus::{Action, IO_UPDATE, RESET, Sequence};
+use convert::clock::Clock;
 use convert::{Driver, clock};
-use registers::{address, answer};
+use registers::address;
+use registers::refusal::Refusal;
 
+// The step stays a number, by which its table is read: a record made by hand may have any, as `Plan` has it.
 // The step, what was asked for, and the FR1 that was read.
 #[derive(Clone, Copy)]
 pub struct Startup {
@@ -19,33 +23,14 @@ pub struct Startup {
     pub fr1: u32,
 }
 
-#[derive(Clone, Copy)]
-pub enum Begun {
-    Sequence(Startup),
-    Refused(u32),
-}
-
-// The driver's record exists only after the last reply.
-#[derive(Clone, Copy)]
-pub enum Made {
-    Driver(Driver),
-    NotYet,
-}
-
-#[derive(Clone, Copy)]
-pub struct Started {
-    pub number: u32,
-    pub driver: Made,
-    pub sequence: Startup,
-}
-
-pub fn new(mode: u32, reference: f32, multiplier: u32) -> Begun
+// Three parameters: the record of them is what it makes.
+pub fn new(mode: u32, reference: f32, multiplier: u32) -> Result<Startup, Refusal>
     ensures { result ≡ new_of mode reference multiplier }
 {
     if 3 < mode {
-        return Begun::Refused(answer::MODE);
+        return Err(Refusal::Mode);
     }
-    Begun::Sequence(Startup {
+    Ok(Startup {
         step: 0,
         mode,
         reference,
@@ -54,44 +39,58 @@ pub fn new(mode: u32, reference: f32, multiplier: u32) -> Begun
     })
 }
 
-// In range, and with a good clock where it stands past the CSR read.
-#[tactic(auto, unfolding(crate::specs::Startup::legal))]
-fn legal(sequence: Startup) -> bool
-    ensures { result ≡ legal sequence }
-{
-    if 3 < sequence.mode {
-        return false;
+impl Startup {
+    fn clock(self) -> Result<Clock, Refusal>
+        ensures { result ≡ clock self }
+    {
+        clock::of(self.reference, self.multiplier)
     }
-    if address::holds(address::FR1, sequence.fr1) {
-        if sequence.step < 12 {
-            return true;
+
+    // In range, and with a good clock where it stands past the CSR read.
+    #[tactic(auto, unfolding(crate::specs::Startup::legal))]
+    fn legal(self) -> bool
+        ensures { result ≡ legal self }
+    {
+        self.mode <= 3
+            && address::holds(address::FR1, self.fr1)
+            && (self.step < 12 || self.clock().is_ok())
+    }
+
+    // All channels in the mode: a mode above 3, which `legal` shuts out, has no CSR.
+    fn csr(self) -> u32
+        ensures { result ≡ csr self }
+    {
+        csr::of(self.mode, 15).unwrap_or(0)
+    }
+
+    // The FR1 to be written: multiplier and vco_high, and every other bit as it was read. Where the clock is refused it is
+    // written nowhere: `legal` shuts that out past the CSR read.
+    #[tactic(auto, unfolding(crate::specs::Startup::word))]
+    fn word(self) -> u32
+        ensures { result ≡ word self self.fr1 }
+    {
+        let vco = self.clock().map_or(0, |clock| clock.vco);
+        fr1::with_clock(self.fr1, self.multiplier, vco).unwrap_or(0)
+    }
+}
+
+impl Sequence for Startup {
+    // The driver's record exists only after the last reply.
+    type Output = Driver;
+
+    ghost plan = { plan };
+
+    ghost table_of = { table_of };
+
+    ghost laws = { follows };
+
+    #[tactic(auto, unfolding(bus::specs::Sequence::action))]
+    fn action(&self) -> Option<Action> {
+        if !self.legal() {
+            return None;
         }
-        return clock::of(sequence.reference, sequence.multiplier).number == answer::OK;
-    }
-    false
-}
-
-// The FR1 to be written: multiplier and vco_high, and every other bit as it was read.
-#[tactic(auto, unfolding(crate::specs::Startup::word))]
-fn word(sequence: Startup) -> u32
-    ensures { result ≡ word sequence sequence.fr1 }
-{
-    let clock = clock::of(sequence.reference, sequence.multiplier);
-    fr1::with_clock(sequence.fr1, sequence.multiplier, clock.vco).value
-}
-
-#[tactic(auto, unfolding(bus::specs::Sequence::action))]
-pub fn action(sequence: Startup) -> Action
-    ensures { result ≡ action_of sequence }
-{
-    let step = sequence.step as usize;
-    if 16 < step {
-        return Action::Nothing;
-    }
-    if legal(sequence) {
-        let mode = sequence.mode;
-        let csr = csr::of(mode, 15).value;
-        let fr1 = word(sequence);
+        let csr = self.csr();
+        let fr1 = self.word();
         let plan = [
             Action::Pin(IO_UPDATE, false),
             Action::Pin(RESET, true),
@@ -102,7 +101,7 @@ pub fn action(sequence: Startup) -> Action
             Action::Pin(IO_UPDATE, true),
             Action::Delay(5),
             Action::Pin(IO_UPDATE, false),
-            Action::Configure(mode),
+            Action::Configure(self.mode),
             Action::Delay(5),
             Action::Read(address::CSR),
             Action::Read(address::FR1),
@@ -111,91 +110,37 @@ pub fn action(sequence: Startup) -> Action
             Action::Delay(5),
             Action::Pin(IO_UPDATE, false),
         ];
-        return plan[step];
+        plan.get(self.step as usize).copied()
     }
-    Action::Nothing
-}
 
-// Start-up's own judgement: the CSR that was read, then the clock.
-#[tactic(auto, unfolding(crate::specs::Startup::judge))]
-fn judge(sequence: Startup, value: u32) -> u32
-    ensures { result ≡ judge sequence value }
-{
-    if sequence.step != 11 {
-        return answer::OK;
+    // The CSR that was read, then the clock.
+    #[tactic(auto, unfolding(crate::specs::Startup::judge))]
+    fn judge(&self, value: u32) -> Result<Option<Driver>, Refusal> {
+        match self.step {
+            11 if value != self.csr() => Err(Refusal::Check),
+            11 => {
+                self.clock()?;
+                Ok(None)
+            }
+            16 => {
+                let ratio = self.clock()?.ratio;
+                Ok(Some(Driver {
+                    mode: self.mode,
+                    ratio,
+                }))
+            }
+            _ => Ok(None),
+        }
     }
-    if value != csr::of(sequence.mode, 15).value {
-        return answer::CHECK;
-    }
-    clock::of(sequence.reference, sequence.multiplier).number
-}
 
-fn kept(step: u32, value: u32, fr1: u32) -> u32
-    ensures { result ≡ kept_of step value fr1 }
-{
-    if step == 12 { value } else { fr1 }
-}
+    fn onward(&mut self, value: u32) {
+        if self.step == 12 {
+            self.fr1 = value;
+        }
+        self.step = self.step.saturating_add(1);
+    }
 
-// The record at another step, with another FR1.
-fn at(sequence: Startup, step: u32, fr1: u32) -> Startup
-    ensures { result ≡ at sequence step fr1 }
-{
-    Startup {
-        step,
-        mode: sequence.mode,
-        reference: sequence.reference,
-        multiplier: sequence.multiplier,
-        fr1,
-    }
-}
-
-// The driver's record, with the reply that ends start-up well.
-fn result(sequence: Startup) -> Made
-    ensures { result ≡ result_of sequence }
-{
-    if sequence.step == 16 {
-        let clock = clock::of(sequence.reference, sequence.multiplier);
-        return Made::Driver(Driver {
-            mode: sequence.mode,
-            ratio: clock.ratio,
-        });
-    }
-    Made::NotYet
-}
-
-fn ended(sequence: Startup, number: u32) -> Started
-    ensures { result ≡ ended_of sequence number }
-{
-    Started {
-        number,
-        driver: Made::NotYet,
-        sequence: at(sequence, 17, sequence.fr1),
-    }
-}
-
-#[tactic(auto, using(bus::proofs::Runs::answered), unfolding(crate::specs::Startup::reply_of, bus::specs::Sequence::after))]
-pub fn reply(sequence: Startup, reply: Reply) -> Started
-    ensures { result ≡ reply_of sequence reply }
-{
-    let number = bus::fault(action(sequence), reply);
-    if number == answer::OVER {
-        return Started {
-            number,
-            driver: Made::NotYet,
-            sequence,
-        };
-    }
-    if number != answer::OK {
-        return ended(sequence, number);
-    }
-    let judged = judge(sequence, reply.value);
-    if judged != answer::OK {
-        return ended(sequence, judged);
-    }
-    let fr1 = kept(sequence.step, reply.value, sequence.fr1);
-    Started {
-        number,
-        driver: result(sequence),
-        sequence: at(sequence, sequence.step + 1, fr1),
+    fn end(&mut self) {
+        self.step = 17;
     }
 }

@@ -1,8 +1,5 @@
 pub mod Streams
 pub mod Steps
-pub mod Passed
-pub mod Fronts
 pub mod Rest
-pub mod Answers
-pub mod RoundTrip
 pub mod Lays
+pub mod RoundTrip

@@ -1,3 +1,4 @@
 pub mod Streams
 pub mod Decoder
+pub mod Left
 pub mod Encoder

@@ -1,251 +1,212 @@
 // Register writes to bytes and back.
 #![tactic(auto)]
 
-ghost use Rattle.std.specs.Prelude.{◌≡◌, ◌^◌, ◌<◌, ◌≤◌, length, drop};
+ghost use Rattle.std.specs.Prelude.{◌≡◌, ◌<◌, ◌≤◌, length, Ok, Err, MatchResult, IfOk, OnOk, OnErr};
 ghost use Rattle.registers.specs.Bytes.{laid};
-ghost use Rattle.registers.specs.Registers.{wrote, width_of};
-ghost use Rattle.stream.specs.Streams.{encode};
-ghost use Rattle.stream.specs.Decoder.{step_of, decode_of, count_of, Within, Filled, Decodes};
-ghost use Rattle.stream.specs.Encoder.{write_fault, Lays, pairs, size_of, Fit, Encodes};
+ghost use Rattle.stream.specs.Streams.{write_bytes, encode};
+ghost use Rattle.stream.specs.Decoder.{first_of, items_of, decode_of, writes_of, count_of, decode_judged, Filled};
+ghost use Rattle.stream.specs.Left.{items_left};
+ghost use Rattle.stream.specs.Encoder.{size_of, lay_judged, pairs, sizes_of, encode_judged};
 
-use registers::{address, answer, big_endian};
+use registers::refusal::Refusal;
+use registers::write::Write;
+use registers::{address, big_endian};
 
-// What stands at a place of a stream: a write of so many bytes behind its address, a fault's number, or the end.
-#[derive(Clone, Copy)]
-pub enum Step {
-    One {
-        address: u32,
-        value: u32,
-        width: usize,
-    },
-    Fault(u32),
-    End,
-}
-
-// A number, and a count that is zero where the number is a refusal.
-#[derive(Clone, Copy)]
-pub struct Tally {
-    pub number: u32,
-    pub count: usize,
-}
-
-fn wide(x: u8) -> u32
-    ensures value { result ≡ x }
-    ensures byte { result < 256 }
+// The first write of a stream, and the bytes behind it.
+#[tactic(auto, using(registers::proofs::Widths::width_most), unfolding(crate::specs::Decoder::first_of))]
+pub fn first(bytes: &[u8]) -> Result<(Write, &[u8]), Refusal>
+    ensures { MatchResult result (λ x. first_of bytes.now ≡ Ok (x.0, x.1.now)) (λ e. first_of bytes.now ≡ Err e) }
 {
-    x as u32
-}
-
-// What stands at a place.
-#[tactic(auto, using(crate::proofs::Steps::at_end, crate::proofs::Steps::at_address))]
-pub fn step_at(bytes: &[u8], at: usize) -> Step
-    ensures step { result ≡ step_of (drop at bytes.now) }
-    ensures within { Within bytes.now at result }
-{
-    if bytes.len() <= at {
-        return Step::End;
-    }
-    let address = wide(bytes[at]);
-    if 24 < address {
-        return Step::Fault(answer::ADDRESS);
+    let Some((&address, rest)) = bytes.split_first() else {
+        return Err(Refusal::Short);
+    };
+    let address = address as u32;
+    if address::CW15 < address {
+        return Err(Refusal::Address);
     }
     let width = address::width(address);
-    let read = big_endian::read(bytes, at + 1, width);
-    if read.number != answer::OK {
-        return Step::Fault(read.number);
-    }
-    Step::One {
-        address,
-        value: read.value,
-        width,
+    let value = big_endian::read(rest, 0, width)?;
+    Ok((Write { address, value }, &rest[width..]))
+}
+
+/// A stream's writes, one by one: a refusal is the last item.
+#[derive(Clone, Copy)]
+pub struct Writes<'a> {
+    bytes: &'a [u8],
+}
+
+impl<'a> Writes<'a> {
+    pub fn new(bytes: &'a [u8]) -> Self
+        ensures { items_left result ≡ items_of bytes.now }
+    {
+        Writes { bytes }
     }
 }
 
-// The first fault, or how many writes there are.
-pub fn scan(bytes: &[u8]) -> Tally
+impl<'a> Iterator for Writes<'a> {
+    ghost use Rattle.std.specs.Iterator.{YieldsFirst, item_count};
+    ghost use Rattle.stream.specs.Left.{items_left};
+
+    type Item = Result<Write, Refusal>;
+
+    ghost next_gives = { YieldsFirst items_left };
+
+    ghost remaining = { item_count items_left };
+
+    #[tactic(auto, using(crate::proofs::Steps::items_nil, crate::proofs::Steps::items_ok, crate::proofs::Steps::items_err))]
+    fn next(&mut self) -> Option<Result<Write, Refusal>> {
+        if self.bytes.is_empty() {
+            return None;
+        }
+        match first(self.bytes) {
+            Ok((write, rest)) => {
+                self.bytes = rest;
+                Some(Ok(write))
+            }
+            Err(refusal) => {
+                self.bytes = &[];
+                Some(Err(refusal))
+            }
+        }
+    }
+}
+
+// How many writes a stream has, or its first refusal.
+#[tactic(auto, using(crate::proofs::Rest::more_none, crate::proofs::Steps::items_most, crate::proofs::Steps::item_next, crate::proofs::Steps::item_bad, crate::proofs::Steps::item_end))]
+pub fn scan(bytes: &[u8]) -> Result<usize, Refusal>
     ensures { result ≡ count_of (decode_of bytes.now) }
 {
-    let mut at = 0;
-    let mut writes: usize = 0;
-    loop {
-        match step_at(bytes, at) {
-            Step::One {
-                address: _,
-                value: _,
-                width,
-            } => {
-                at = at + 1 + width;
-                writes = writes + 1;
-            }
-            Step::Fault(number) => {
-                return Tally { number, count: 0 };
-            }
-            Step::End => {
-                return Tally {
-                    number: answer::OK,
-                    count: writes,
-                };
-            }
-        }
+    let mut seen: usize = 0;
+    for write in Writes::new(bytes) {
+        write?;
+        seen += 1;
     }
+    Ok(seen)
 }
 
-// Writes the addresses and the values to the fronts of the two buffers.
+// Writes the addresses and the values to the fronts of two buffers: two, as `decode` gets them.
+#[tactic(auto, using(registers::proofs::Laid::laid_nil, registers::proofs::Laid::laid_cons))]
 fn fill(bytes: &[u8], addresses: &mut [u32], values: &mut [u32])
-    requires addresses { length (decode_of bytes.now).writes ≤ length addresses.old }
-    requires values { length (decode_of bytes.now).writes ≤ length values.old }
-    ensures { Filled (decode_of bytes.now).writes addresses.old values.old addresses.new values.new }
+    requires addresses { length (items_of bytes.now) ≤ length addresses.old }
+    requires values { length (items_of bytes.now) ≤ length values.old }
+    ensures { Filled (writes_of bytes.now) addresses.old values.old addresses.new values.new }
 {
-    let mut at = 0;
-    let mut count = 0;
-    loop {
-        match step_at(bytes, at) {
-            Step::One {
-                address,
-                value,
-                width,
-            } => {
-                addresses[count] = address;
-                values[count] = value;
-                at = at + 1 + width;
-                count = count + 1;
-            }
-            Step::Fault(_number) => {
-                return;
-            }
-            Step::End => {
-                return;
-            }
-        }
+    for (place, write) in Writes::new(bytes).enumerate() {
+        let Ok(write) = write else {
+            return;
+        };
+        addresses[place] = write.address;
+        values[place] = write.value;
     }
 }
 
-// Decodes a stream into two buffers: the number, and how many writes there are.
-#[tactic(auto, using(crate::proofs::Fronts::filled_none))]
-pub fn decode(bytes: &[u8], addresses: &mut [u32], values: &mut [u32]) -> Tally
-    ensures { Decodes bytes.now addresses.old values.old result addresses.new values.new }
+// Decodes a stream into two buffers, as the C interface has them: how many writes there are.
+#[tactic(auto, using(crate::proofs::Steps::counted))]
+pub fn decode(bytes: &[u8], addresses: &mut [u32], values: &mut [u32]) -> Result<usize, Refusal>
+    ensures judged { result ≡ decode_judged bytes.now (length addresses.old) (length values.old) }
+    ensures taken { OnOk result (Filled (writes_of bytes.now) addresses.old values.old addresses.new values.new) }
+    ensures addresses_kept { OnErr result (addresses.new ≡ addresses.old) }
+    ensures values_kept { OnErr result (values.new ≡ values.old) }
 {
-    let t = scan(bytes);
-    if t.number != answer::OK {
-        return t;
-    }
-    if addresses.len() < t.count {
-        return Tally {
-            number: answer::ROOM,
-            count: 0,
-        };
-    }
-    if values.len() < t.count {
-        return Tally {
-            number: answer::ROOM,
-            count: 0,
-        };
+    let found = scan(bytes)?;
+    if addresses.len() < found || values.len() < found {
+        return Err(Refusal::Room);
     }
     fill(bytes, addresses, values);
-    t
+    Ok(found)
 }
 
-// Address, then Word, of a bad write.
-fn fault(address: u32, value: u32) -> u32
-    ensures fault { result ≡ write_fault (wrote address value) }
-    ensures named { result ≡ 0 → address < 25 }
-    ensures held { result ≡ 0 → value < 256 ^ width_of address }
+// The address is tested in a line, as in `first`: one judges bytes, the other a write.
+// How many bytes a write takes. A bad one is Address, then Word.
+#[tactic(auto, using(registers::proofs::Widths::width_most))]
+fn size(write: Write) -> Result<usize, Refusal>
+    ensures judged { result ≡ size_of write }
+    ensures named { OnOk result (write.address < 25) }
+    ensures small { IfOk result (λ n. n ≤ 5) }
 {
-    if 24 < address {
-        return answer::ADDRESS;
+    if address::CW15 < write.address {
+        return Err(Refusal::Address);
     }
-    if address::holds(address, value) {
-        answer::OK
-    } else {
-        answer::WORD
+    if !address::holds(write.address, write.value) {
+        return Err(Refusal::Word);
     }
+    Ok(1 + address::width(write.address))
 }
 
-// Lays one write over the bytes from a place on.
-pub fn lay(bytes: &mut [u8], at: usize, address: u32, value: u32) -> u32
-    ensures { Lays bytes.old at (wrote address value) result bytes.new }
+// Lays one write over the bytes from a place on: the place behind it. The place is a number, since `lay` answers any.
+#[tactic(auto, using(crate::proofs::Lays::lay_refused, crate::proofs::Lays::lay_fits, crate::proofs::Lays::lay_full, crate::proofs::Lays::stored))]
+pub fn lay(bytes: &mut [u8], at: usize, write: Write) -> Result<usize, Refusal>
+    ensures judged { result ≡ lay_judged (length bytes.old) at write }
+    ensures laid { OnOk result (bytes.new ≡ laid bytes.old at (write_bytes write)) }
+    ensures kept { OnErr result (bytes.new ≡ bytes.old) }
 {
-    let bad = fault(address, value);
-    if bad != answer::OK {
-        return bad;
-    }
+    let size = size(write)?;
     if bytes.len() <= at {
-        return answer::ROOM;
+        return Err(Refusal::Room);
     }
-    let number = big_endian::write(bytes, at + 1, address::width(address), value);
-    if number == answer::OK {
-        bytes[at] = (address % 256) as u8;
-    }
-    number
+    big_endian::write(bytes, at + 1, size - 1, write.value)?;
+    bytes[at] = write.address as u8;
+    Ok(at + size)
 }
 
-// The first bad write's number, or how many bytes the writes take.
-fn measure(addresses: &[u32], values: &[u32], count: usize) -> Tally
+// How many bytes the writes take, or the refusal of the first bad one. By places: of two lists side by side (`zip`) a proof would need both iterators.
+#[tactic(auto, using(crate::proofs::Rest::rest_zero, crate::proofs::Rest::more_none, crate::proofs::Rest::rest_more, crate::proofs::Rest::rest_none))]
+fn measure(addresses: &[u32], values: &[u32], count: usize) -> Result<usize, Refusal>
     requires addresses { count ≤ length addresses.now }
     requires values { count ≤ length values.now }
-    ensures { result ≡ size_of (pairs count addresses.now values.now) }
+    ensures { result ≡ sizes_of (pairs count addresses.now values.now) }
 {
-    let mut i = 0;
-    let mut size = 0;
-    while i < count {
-        let bad = fault(addresses[i], values[i]);
-        if bad != answer::OK {
-            return Tally {
-                number: bad,
-                count: 0,
-            };
-        }
-        size = size + 1 + address::width(addresses[i]);
-        i = i + 1;
+    let mut bytes = 0;
+    for i in 0..count {
+        bytes += size(Write {
+            address: addresses[i],
+            value: values[i],
+        })?;
     }
-    Tally {
-        number: answer::OK,
-        count: size,
-    }
+    Ok(bytes)
 }
 
-// Lays the writes over the front of the bytes.
+// Lays the writes over the front of the bytes, by places likewise.
 fn lay_each(addresses: &[u32], values: &[u32], count: usize, bytes: &mut [u8])
-    requires { Fit (pairs count addresses.now values.now) count (length addresses.now) (length values.now) (length bytes.old) }
+    requires addresses { count ≤ length addresses.now }
+    requires values { count ≤ length values.now }
+    requires good { sizes_of (pairs count addresses.now values.now) ≡ Ok (length (encode (pairs count addresses.now values.now))) }
+    requires room { length (encode (pairs count addresses.now values.now)) ≤ length bytes.old }
     ensures { bytes.new ≡ laid bytes.old 0 (encode (pairs count addresses.now values.now)) }
 {
-    let mut i = 0;
     let mut at = 0;
-    while i < count {
-        let address = addresses[i];
-        lay(bytes, at, address, values[i]);
-        at = at + 1 + address::width(address);
-        i = i + 1;
+    for i in 0..count {
+        at = lay(
+            bytes,
+            at,
+            Write {
+                address: addresses[i],
+                value: values[i],
+            },
+        )
+        .unwrap();
     }
 }
 
-// Encodes writes into a buffer: the number, and how many bytes they take.
-#[tactic(auto, using(registers::proofs::Laid::laid_nil))]
-pub fn encode(addresses: &[u32], values: &[u32], count: usize, bytes: &mut [u8]) -> Tally
-    ensures { Encodes count addresses.now values.now bytes.old result bytes.new }
+// Encodes writes, in two lists as the C interface has them, into a buffer: how many bytes they take.
+#[tactic(auto, using(crate::proofs::Rest::sizes_length))]
+pub fn encode(
+    addresses: &[u32],
+    values: &[u32],
+    count: usize,
+    bytes: &mut [u8],
+) -> Result<usize, Refusal>
+    ensures judged { result ≡ encode_judged count addresses.now values.now (length bytes.old) }
+    ensures encoded { OnOk result (bytes.new ≡ laid bytes.old 0 (encode (pairs count addresses.now values.now))) }
+    ensures kept { OnErr result (bytes.new ≡ bytes.old) }
 {
-    if addresses.len() < count {
-        return Tally {
-            number: answer::ROOM,
-            count: 0,
-        };
+    if addresses.len() < count || values.len() < count {
+        return Err(Refusal::Room);
     }
-    if values.len() < count {
-        return Tally {
-            number: answer::ROOM,
-            count: 0,
-        };
-    }
-    let t = measure(addresses, values, count);
-    if t.number != answer::OK {
-        return t;
-    }
-    if bytes.len() < t.count {
-        return Tally {
-            number: answer::ROOM,
-            count: 0,
-        };
+    let size = measure(addresses, values, count)?;
+    if bytes.len() < size {
+        return Err(Refusal::Room);
     }
     lay_each(addresses, values, count, bytes);
-    t
+    Ok(size)
 }

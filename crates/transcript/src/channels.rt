@@ -1,12 +1,12 @@
 // Channel settings and readings.
 use crate::chip::Fault;
-use crate::run::play;
-use crate::{say, show};
+use crate::run::{Trial, play};
+use crate::show::Float;
 use convert::Driver;
-use driver::channel;
-use driver::channel::Begun;
-use host::Sequence;
-use std::io;
+use driver::channel::{self, Transfer};
+use host::Kind;
+use registers::refusal::Refusal;
+use std::{fmt, io};
 
 #[derive(Clone, Copy)]
 enum Wish {
@@ -18,30 +18,28 @@ enum Wish {
     GetAmplitude,
 }
 
-pub fn nan() -> f32 {
-    let zero = 0.0;
-    zero / zero
-}
-
-fn title(rt: &impl Print, wish: Wish) -> io::Result<()> {
-    match wish {
-        Wish::SetFrequency(x) => say::float(rt, b"\nset frequency ", x),
-        Wish::SetPhase(x) => say::float(rt, b"\nset phase ", x),
-        Wish::SetAmplitude(x) => say::float(rt, b"\nset amplitude ", x),
-        Wish::GetFrequency => say::text(rt, b"\nread frequency"),
-        Wish::GetPhase => say::text(rt, b"\nread phase"),
-        Wish::GetAmplitude => say::text(rt, b"\nread amplitude"),
+impl fmt::Display for Wish {
+    fn fmt<W: fmt::Write>(&self, f: &mut fmt::Formatter<W>) -> fmt::Result {
+        match *self {
+            Wish::SetFrequency(x) => write!(f, "set frequency {}", Float(x)),
+            Wish::SetPhase(x) => write!(f, "set phase {}", Float(x)),
+            Wish::SetAmplitude(x) => write!(f, "set amplitude {}", Float(x)),
+            Wish::GetFrequency => f.write_str("read frequency"),
+            Wish::GetPhase => f.write_str("read phase"),
+            Wish::GetAmplitude => f.write_str("read amplitude"),
+        }
     }
 }
 
-pub fn on(rt: &impl Print, mode: u32, mask: u32, ratio: f32) -> io::Result<()> {
-    say::decimal(rt, b" in mode ", mode as u64)?;
-    say::decimal(rt, b", mask ", mask as u64)?;
-    say::float(rt, b", ratio ", ratio)?;
-    Ok(())
+// Driver and mask stay two parameters, as driver's functions take them.
+/// Where something is done.
+pub fn on(rt: &impl Print, driver: Driver, mask: u32) -> io::Result<()> {
+    let ratio = Float(driver.ratio);
+    print!(rt; " in mode {}, mask {mask}, ratio {ratio}", driver.mode)
 }
 
-fn begun(driver: Driver, mask: u32, wish: Wish) -> Begun {
+// A match and no closures: a wish is printed too.
+fn begun(driver: Driver, mask: u32, wish: Wish) -> Result<Transfer, Refusal> {
     match wish {
         Wish::SetFrequency(x) => channel::set_frequency(driver, mask, x),
         Wish::SetPhase(x) => channel::set_phase(driver, mask, x),
@@ -52,96 +50,90 @@ fn begun(driver: Driver, mask: u32, wish: Wish) -> Begun {
     }
 }
 
-fn ask(
-    rt: &impl Print,
-    driver: Driver,
-    mask: u32,
-    wish: Wish,
-    fault: Fault,
-    shown: usize,
-) -> io::Result<()> {
-    title(rt, wish)?;
-    on(rt, driver.mode, mask, driver.ratio)?;
-    show::fault(rt, fault)?;
+fn ask(rt: &impl Print, driver: Driver, mask: u32, wish: Wish, trial: Trial) -> io::Result<()> {
+    print!(rt; "\n{wish}")?;
+    on(rt, driver, mask)?;
+    trial.title(rt)?;
     match begun(driver, mask, wish) {
-        Begun::Sequence(s) => {
-            play(rt, Sequence::Transfer(s), fault, shown)?;
+        Ok(transfer) => {
+            play(rt, Kind::Transfer(transfer), trial)?;
             Ok(())
         }
-        Begun::Refused(number) => say::answer(rt, b": refused, ", number),
+        Err(refusal) => print!(rt; ": refused, {refusal}"),
     }
 }
 
-fn six(rt: &impl Print, driver: Driver, mask: u32, fault: Fault, shown: usize) -> io::Result<()> {
-    ask(rt, driver, mask, Wish::SetFrequency(100e6), fault, shown)?;
-    ask(rt, driver, mask, Wish::SetPhase(0.75), fault, shown)?;
-    ask(rt, driver, mask, Wish::SetAmplitude(0.5), fault, shown)?;
-    ask(rt, driver, mask, Wish::GetFrequency, fault, shown)?;
-    ask(rt, driver, mask, Wish::GetPhase, fault, shown)?;
-    ask(rt, driver, mask, Wish::GetAmplitude, fault, shown)?;
-    Ok(())
+fn six(rt: &impl Print, driver: Driver, mask: u32, trial: Trial) -> io::Result<()> {
+    ask(rt, driver, mask, Wish::SetFrequency(100e6), trial)?;
+    ask(rt, driver, mask, Wish::SetPhase(0.75), trial)?;
+    ask(rt, driver, mask, Wish::SetAmplitude(0.5), trial)?;
+    ask(rt, driver, mask, Wish::GetFrequency, trial)?;
+    ask(rt, driver, mask, Wish::GetPhase, trial)?;
+    ask(rt, driver, mask, Wish::GetAmplitude, trial)
 }
 
-// Besides the six: full amplitude, which turns ACR's multiplier off.
+/// Besides the six: full amplitude, which turns ACR's multiplier off.
 pub fn good(rt: &impl Print, driver: Driver) -> io::Result<()> {
-    let none = Fault::None;
-    let off = Fault::Reads(2, 0x00_0200);
-    six(rt, driver, 5, none, 0)?;
-    ask(rt, driver, 8, Wish::SetFrequency(1e6), none, 0)?;
-    ask(rt, driver, 8, Wish::SetAmplitude(1.0), none, 0)?;
-    ask(rt, driver, 8, Wish::GetAmplitude, off, 0)?;
-    Ok(())
+    let all = Trial::new();
+    let off = all.with(Fault::Reads(2, 0x00_0200));
+    six(rt, driver, 5, all)?;
+    ask(rt, driver, 8, Wish::SetFrequency(1e6), all)?;
+    ask(rt, driver, 8, Wish::SetAmplitude(1.0), all)?;
+    ask(rt, driver, 8, Wish::GetAmplitude, off)
 }
 
-// Each action fails; then values too wide for CPOW0 and for ACR.
+/// Each action fails; then values too wide for CPOW0 and for ACR.
 pub fn faulty(rt: &impl Print, driver: Driver) -> io::Result<()> {
-    let cpow0 = Fault::Reads(2, 0x1_0000);
-    let acr = Fault::Reads(2, 0x100_0000);
-    six(rt, driver, 1, Fault::Fails(1), 1)?;
-    six(rt, driver, 1, Fault::Fails(2), 2)?;
-    ask(rt, driver, 1, Wish::GetPhase, cpow0, 2)?;
-    ask(rt, driver, 1, Wish::GetAmplitude, acr, 2)?;
-    Ok(())
+    let cpow0 = Trial::new().with(Fault::Reads(2, 0x1_0000));
+    let acr = Trial::new().with(Fault::Reads(2, 0x100_0000));
+    six(rt, driver, 1, Trial::new().with(Fault::Fails(1)).showing(1))?;
+    six(rt, driver, 1, Trial::new().with(Fault::Fails(2)).showing(2))?;
+    ask(rt, driver, 1, Wish::GetPhase, cpow0.showing(2))?;
+    ask(rt, driver, 1, Wish::GetAmplitude, acr.showing(2))
 }
 
 // What is accepted shows its second action.
 fn judged(rt: &impl Print, mode: u32, mask: u32, ratio: f32, wish: Wish) -> io::Result<()> {
-    ask(rt, Driver { mode, ratio }, mask, wish, Fault::None, 2)?;
-    Ok(())
+    ask(
+        rt,
+        Driver { mode, ratio },
+        mask,
+        wish,
+        Trial::new().showing(2),
+    )
 }
 
-// Mode, Mask and NotReady.
+/// Mode, Mask and NotReady.
 pub fn refused(rt: &impl Print) -> io::Result<()> {
-    let none = Fault::None;
     let get = Wish::GetFrequency;
     let set = Wish::SetFrequency(100e6);
+    let second = Trial::new().showing(2);
     let ratio = 16.0;
-    six(rt, Driver { mode: 4, ratio }, 1, none, 2)?;
-    six(rt, Driver { mode: 3, ratio }, 16, none, 2)?;
-    let ratio = nan();
-    six(rt, Driver { mode: 3, ratio }, 1, none, 2)?;
+    six(rt, Driver { mode: 4, ratio }, 1, second)?;
+    six(rt, Driver { mode: 3, ratio }, 16, second)?;
+    let ratio = f32::NAN;
+    six(rt, Driver { mode: 3, ratio }, 1, second)?;
     judged(rt, 3, 1, 7.9999995, set)?;
     judged(rt, 3, 1, 7.9999995, get)?;
     judged(rt, 3, 1, 8.0, set)?;
     judged(rt, 3, 1, 4295.0, get)?;
     judged(rt, 3, 1, 4295.0005, set)?;
-    judged(rt, 3, 1, 4295.0005, get)?;
-    Ok(())
+    judged(rt, 3, 1, 4295.0005, get)
 }
 
-// Bounds: on the ratio 16 the limit is 268435456. Then several refusals at once.
+/// Bounds: on the ratio 16 the limit is 268435456. Then several refusals at once.
 pub fn bounds(rt: &impl Print) -> io::Result<()> {
+    let nan = f32::NAN;
     let negative = Wish::SetFrequency(-1.0);
     let loud = Wish::SetAmplitude(1.5);
     judged(rt, 3, 1, 16.0, negative)?;
     judged(rt, 3, 1, 16.0, Wish::SetFrequency(268435456.0))?;
     judged(rt, 3, 1, 16.0, Wish::SetFrequency(268435488.0))?;
     judged(rt, 3, 1, 16.0, loud)?;
-    judged(rt, 3, 1, 16.0, Wish::SetAmplitude(nan()))?;
-    judged(rt, 3, 1, nan(), negative)?;
-    judged(rt, 3, 16, nan(), negative)?;
-    judged(rt, 4, 16, nan(), negative)?;
-    judged(rt, 3, 16, nan(), loud)?;
-    judged(rt, 4, 16, nan(), loud)?;
-    Ok(())
+    judged(rt, 3, 1, 16.0, Wish::SetAmplitude(nan))?;
+    judged(rt, 3, 1, nan, negative)?;
+    judged(rt, 3, 16, nan, negative)?;
+    judged(rt, 4, 16, nan, negative)?;
+    judged(rt, 3, 16, nan, loud)?;
+    judged(rt, 4, 16, nan, loud)
 }

@@ -1,13 +1,13 @@
 // Records made by hand.
-use crate::channels::{nan, on};
+use crate::channels::on;
 use crate::chip::Fault;
-use crate::run::play;
-use crate::say;
-use crate::show::register;
+use crate::run::{Trial, play};
+use crate::show;
 use crate::startups::title;
+use convert::Driver;
 use driver::channel::{Access, Transfer};
 use driver::register::Register;
-use host::Sequence;
+use host::Kind;
 use registers::address;
 use self_test::SelfTest;
 use startup::Startup;
@@ -16,8 +16,7 @@ use std::io;
 // On the multiplier 4; a CSR read in the first turn gives what mode 3 wants.
 fn startup(rt: &impl Print, step: u32, mode: u32, reference: f32, fr1: u32) -> io::Result<()> {
     title(rt, mode, reference, 4)?;
-    say::decimal(rt, b", step ", step as u64)?;
-    say::hex(rt, b", FR1 0x", fr1, 6)?;
+    print!(rt; ", step {step}, FR1 0x{fr1:06x}")?;
     let record = Startup {
         step,
         mode,
@@ -25,7 +24,8 @@ fn startup(rt: &impl Print, step: u32, mode: u32, reference: f32, fr1: u32) -> i
         multiplier: 4,
         fr1,
     };
-    play(rt, Sequence::Startup(record), Fault::Reads(1, 0xf6), 0)?;
+    let trial = Trial::new().with(Fault::Reads(1, 0xf6));
+    play(rt, Kind::Startup(record), trial)?;
     Ok(())
 }
 
@@ -37,80 +37,69 @@ pub fn startups(rt: &impl Print) -> io::Result<()> {
     startup(rt, 12, 3, 10e6, 0)?;
     startup(rt, 16, 3, 10e6, 0)?;
     startup(rt, 11, 3, 10e6, 0)?;
-    startup(rt, 16, 3, 125e6, 0xff_ffff)?;
+    startup(rt, 16, 3, 125e6, 0xff_ffff)
+}
+
+fn transfer(rt: &impl Print, record: Transfer) -> io::Result<()> {
+    let register = show::Register(record.register);
+    match record.access {
+        Access::Set(word) => print!(rt; "\nwrite 0x{word:04x} to {register}")?,
+        Access::Get => print!(rt; "\nread {register}")?,
+    }
+    let driver = Driver {
+        mode: record.mode,
+        ratio: record.ratio,
+    };
+    on(rt, driver, record.mask)?;
+    print!(rt; ", step {}", record.step)?;
+    play(rt, Kind::Transfer(record), Trial::new())?;
     Ok(())
 }
 
-// What a transfer does with a register.
-fn accessed(rt: &impl Print, access: Access, address: u32) -> io::Result<()> {
-    match access {
-        Access::Set(word) => {
-            say::hex(rt, b"\nwrite 0x", word, 4)?;
-            register(rt, b" to ", address)
-        }
-        Access::Get => register(rt, b"\nread ", address),
+// A transfer that is as it should be.
+fn right(register: u32, access: Access) -> Transfer {
+    Transfer {
+        step: 0,
+        mode: 3,
+        mask: 1,
+        register,
+        access,
+        ratio: 16.0,
     }
 }
 
-fn transfer(
-    rt: &impl Print,
-    step: u32,
-    mode: u32,
-    mask: u32,
-    register: u32,
-    access: Access,
-    ratio: f32,
-) -> io::Result<()> {
-    accessed(rt, access, register)?;
-    on(rt, mode, mask, ratio)?;
-    say::decimal(rt, b", step ", step as u64)?;
-    let record = Transfer {
-        step,
-        mode,
-        mask,
-        register,
-        access,
-        ratio,
-    };
-    play(rt, Sequence::Transfer(record), Fault::None, 0)?;
-    Ok(())
-}
-
+/// One thing is wrong with each but the last, which is past its check of the ratio.
 pub fn transfers(rt: &impl Print) -> io::Result<()> {
-    let get = Access::Get;
-    transfer(rt, 2, 3, 1, address::CFTW0, get, 16.0)?;
-    transfer(rt, 0, 4, 1, address::CFTW0, get, 16.0)?;
-    transfer(rt, 0, 3, 16, address::CFTW0, get, 16.0)?;
-    transfer(rt, 0, 3, 1, address::CFTW0, get, nan())?;
-    transfer(rt, 0, 3, 1, address::LSRR, get, 16.0)?;
-    transfer(rt, 0, 3, 1, address::CSR, get, 16.0)?;
-    transfer(rt, 0, 3, 1, address::CPOW0, Access::Set(0x4000), 16.0)?;
-    transfer(rt, 0, 3, 1, address::ACR, Access::Set(0x100_0000), 16.0)?;
-    transfer(rt, 1, 3, 1, address::CPOW0, Access::Set(0x3fff), nan())?;
-    Ok(())
+    let read = right(address::CFTW0, Access::Get);
+    transfer(rt, Transfer { step: 2, ..read })?;
+    transfer(rt, Transfer { mode: 4, ..read })?;
+    transfer(rt, Transfer { mask: 16, ..read })?;
+    let ratio = f32::NAN;
+    transfer(rt, Transfer { ratio, ..read })?;
+    transfer(rt, right(address::LSRR, Access::Get))?;
+    transfer(rt, right(address::CSR, Access::Get))?;
+    transfer(rt, right(address::CPOW0, Access::Set(0x4000)))?;
+    transfer(rt, right(address::ACR, Access::Set(0x100_0000)))?;
+    let write = right(address::CPOW0, Access::Set(0x3fff));
+    transfer(
+        rt,
+        Transfer {
+            step: 1,
+            ratio,
+            ..write
+        },
+    )
 }
 
 fn test(rt: &impl Print, step: u32, old: u32) -> io::Result<()> {
-    say::decimal(rt, b"\nself test at step ", step as u64)?;
-    say::hex(rt, b", old byte 0x", old, 2)?;
-    play(
-        rt,
-        Sequence::SelfTest(SelfTest { step, old }),
-        Fault::None,
-        0,
-    )?;
+    print!(rt; "\nself test at step {step}, old byte 0x{old:02x}")?;
+    play(rt, Kind::SelfTest(SelfTest { step, old }), Trial::new())?;
     Ok(())
 }
 
 fn reading(rt: &impl Print, step: u32, address: u32) -> io::Result<()> {
-    register(rt, b"\nread ", address)?;
-    say::decimal(rt, b" at step ", step as u64)?;
-    play(
-        rt,
-        Sequence::Register(Register { step, address }),
-        Fault::None,
-        0,
-    )?;
+    print!(rt; "\nread {} at step {step}", show::Register(address))?;
+    play(rt, Kind::Register(Register { step, address }), Trial::new())?;
     Ok(())
 }
 
@@ -119,6 +108,5 @@ pub fn others(rt: &impl Print) -> io::Result<()> {
     test(rt, 0, 256)?;
     test(rt, 5, 0x29)?;
     reading(rt, 1, address::CSR)?;
-    reading(rt, 0, address::FR2)?;
-    Ok(())
+    reading(rt, 0, address::FR2)
 }

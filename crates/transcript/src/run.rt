@@ -1,119 +1,104 @@
 // A sequence played to its end against a chip.
-use crate::chip::Fault;
-use crate::{chip, say, show};
-use bus::{Action, Reply};
-use host::{Outcome, Sequence};
+use crate::chip::{Chip, Fault};
+use crate::show::{Answer, Turn};
+use bus::{Reply, Sequence};
+use host::{Kind, Outcome};
 use std::io;
 
-// The chip's CSR at first.
-const OLD: u32 = 0x29;
-
+/// How a sequence is tried: what goes wrong, and the one turn that is shown, or else all with their answers.
 #[derive(Clone, Copy)]
-pub struct Run {
-    pub sequence: Sequence,
-    pub csr: u32,
-    pub count: usize,
-    pub number: u32,
-    pub outcome: Outcome,
+pub struct Trial {
+    fault: Option<Fault>,
+    only: Option<usize>,
 }
 
-// The n-th action, if there is one, and its reply. Both are shown where `shown` is n; where it is 0, the answer too.
-fn turn(rt: &impl Print, run: Run, n: usize, fault: Fault, shown: usize) -> io::Result<Run> {
-    let sequence = run.sequence;
-    let action = host::action(sequence);
-    if let Action::Nothing = action {
-        return Ok(run);
+impl Trial {
+    pub fn new() -> Trial {
+        Trial {
+            fault: None,
+            only: None,
+        }
     }
-    let reply = chip::reply(run.csr, fault, n, action);
-    let step = host::reply(sequence, reply);
-    let next = step.sequence;
-    let outcome = step.outcome;
-    if shown == 0 || shown == n {
-        show::line(rt, n, action, reply)?;
+
+    pub fn with(self, fault: Fault) -> Trial {
+        Trial {
+            fault: Some(fault),
+            ..self
+        }
     }
-    if shown == 0 {
-        say::answer(rt, b"", step.number)?;
-        show::outcome(rt, outcome)?;
+
+    pub fn showing(self, turn: usize) -> Trial {
+        Trial {
+            only: Some(turn),
+            ..self
+        }
     }
-    Ok(Run {
-        sequence: next,
-        csr: chip::written(run.csr, action),
-        count: n,
-        number: step.number,
-        outcome,
-    })
+
+    /// What goes wrong, if anything does.
+    pub fn title(self, rt: &impl Print) -> io::Result<()> {
+        match self.fault {
+            Some(fault) => print!(rt; "{fault}"),
+            None => Ok(()),
+        }
+    }
 }
 
-// How many actions were handed out, and what the last reply gave.
-fn ended(rt: &impl Print, run: Run, shown: usize) -> io::Result<()> {
-    let outcome = run.outcome;
-    if run.count == 0 {
-        say::text(rt, b": hands out nothing")?;
-        return Ok(());
+// Not by `bus::run`: a turn shows the answer to its reply, which a `Bus` isn't told.
+/// Twenty turns: no sequence has more than 17 actions. What the last reply brought.
+pub fn play(rt: &impl Print, mut sequence: Kind, trial: Trial) -> io::Result<Option<Outcome>> {
+    let mut chip = Chip::new(trial.fault);
+    let mut count = 0;
+    let mut last = Ok(None);
+    for n in 1..21usize {
+        let Some(action) = sequence.action() else {
+            break;
+        };
+        let reply = chip.play(n, action);
+        last = sequence.reply(reply);
+        count = n;
+        match trial.only {
+            None => print!(rt; "\n{n:>4}  {}{}", Turn { action, reply }, Answer(last))?,
+            Some(turn) if turn == n => print!(rt; "\n{n:>4}  {}", Turn { action, reply })?,
+            Some(_) => {}
+        }
     }
-    say::pick(rt, shown == 0, b"\n      ", b"")?;
-    say::decimal(rt, b"handed out ", run.count as u64)?;
-    say::answer(rt, b", ended with ", run.number)?;
-    show::outcome(rt, outcome)?;
-    Ok(())
+    if count == 0 {
+        print!(rt; ": hands out nothing")?;
+    } else {
+        let line = if trial.only.is_none() { "\n      " } else { "" };
+        print!(rt; "{line}handed out {count}, ended with {}", Answer(last))?;
+    }
+    more(rt, sequence)?;
+    Ok(last.unwrap_or(None))
 }
 
 // What one more reply gives: it must not wake the sequence.
-fn more(rt: &impl Print, sequence: Sequence) -> io::Result<()> {
+fn more(rt: &impl Print, mut sequence: Kind) -> io::Result<()> {
     let good = Reply {
         failed: false,
         value: 0,
     };
-    let step = host::reply(sequence, good);
-    let outcome = step.outcome;
-    let next = step.sequence;
-    let action = host::action(next);
-    say::answer(rt, b"; one more reply: ", step.number)?;
-    show::outcome(rt, outcome)?;
-    if let Action::Nothing = action {
-        return Ok(());
+    let answer = sequence.reply(good);
+    print!(rt; "; one more reply: {}", Answer(answer))?;
+    if sequence.action().is_some() {
+        print!(rt; ", AN ACTION")?;
     }
-    say::text(rt, b", AN ACTION")?;
     Ok(())
 }
 
-// Twenty turns: no sequence has more than 17 actions.
-pub fn play(rt: &impl Print, first: Sequence, fault: Fault, shown: usize) -> io::Result<Outcome> {
-    let mut run = Run {
-        sequence: first,
-        csr: OLD,
-        count: 0,
-        number: 0,
-        outcome: Outcome::Nothing,
-    };
-    for n in 1..21usize {
-        run = turn(rt, run, n, fault, shown)?;
-    }
-    let outcome = run.outcome;
-    let last = run.sequence;
-    ended(rt, run, shown)?;
-    more(rt, last)?;
-    Ok(outcome)
-}
-
-pub fn titled(
-    rt: &impl Print,
-    title: &[u8],
-    sequence: Sequence,
-    fault: Fault,
-    shown: usize,
-) -> io::Result<()> {
-    say::text(rt, title)?;
-    show::fault(rt, fault)?;
-    play(rt, sequence, fault, shown)?;
+pub fn titled(rt: &impl Print, title: &str, sequence: Kind, trial: Trial) -> io::Result<()> {
+    print!(rt; "{title}")?;
+    trial.title(rt)?;
+    play(rt, sequence, trial)?;
     Ok(())
 }
 
-// A run for each of so many actions, in which that one fails.
-pub fn each(rt: &impl Print, title: &[u8], sequence: Sequence, count: usize) -> io::Result<()> {
-    say::text(rt, title)?;
+/// A run for each of so many actions, in which that one fails.
+pub fn each(rt: &impl Print, title: &str, sequence: Kind, count: usize) -> io::Result<()> {
+    print!(rt; "{title}")?;
     for n in 1..=count {
-        play(rt, sequence, Fault::Fails(n), n)?;
+        let trial = Trial::new().with(Fault::Fails(n)).showing(n);
+        play(rt, sequence, trial)?;
     }
     Ok(())
 }

@@ -1,113 +1,127 @@
-// An action, its reply, a result and a fault, in words.
-use crate::chip::Fault;
-use crate::say;
+// An action, its reply, an answer, a float and a fault, in words.
 use bus::{Action, IO_UPDATE, Reply};
 use host::Outcome;
 use registers::address;
-use std::io;
+use registers::refusal::Refusal;
+use registers::write::Write;
+use std::fmt;
 
-// A word, and a register's name in five columns.
-pub fn register(rt: &impl Print, before: &[u8], address: u32) -> io::Result<()> {
-    say::text(rt, before)?;
-    if address < 8 {
-        let at = address as usize * 5;
-        let names = b"CSR  FR1  FR2  CFR  CFTW0CPOW0ACR  LSRR ";
-        say::part(rt, names, at, at + 5)?;
-    } else {
-        say::decimal(rt, b"", address as u64)?;
+/// A float's sign, its size cut to three places, and its bit pattern.
+#[derive(Clone, Copy)]
+pub struct Float(pub f32);
+
+impl fmt::Display for Float {
+    fn fmt<W: fmt::Write>(&self, f: &mut fmt::Formatter<W>) -> fmt::Result {
+        let x = self.0;
+        if x.is_nan() {
+            return f.write_str("NaN");
+        }
+        let sign = if x < 0.0 { "-" } else { "" };
+        let size = x.abs();
+        let whole = binary32::cut(size);
+        let rest = binary32::cut((size - binary32::nearest(whole)) * 1000.0) % 1000;
+        let bits = binary32::to_bits(x);
+        write!(f, "{sign}{whole}.{rest:03} (0x{bits:08x})")
     }
-    Ok(())
+}
+
+/// A register's name, in five columns.
+#[derive(Clone, Copy)]
+pub struct Register(pub u32);
+
+impl fmt::Display for Register {
+    fn fmt<W: fmt::Write>(&self, f: &mut fmt::Formatter<W>) -> fmt::Result {
+        match self.0 {
+            address::CSR => f.write_str("CSR  "),
+            address::FR1 => f.write_str("FR1  "),
+            address::FR2 => f.write_str("FR2  "),
+            address::CFR => f.write_str("CFR  "),
+            address::CFTW0 => f.write_str("CFTW0"),
+            address::CPOW0 => f.write_str("CPOW0"),
+            address::ACR => f.write_str("ACR  "),
+            address::LSRR => f.write_str("LSRR "),
+            other => write!(f, "{other}"),
+        }
+    }
 }
 
 // A register's value, in thirteen columns: in as many digits as it has, or in eight where it is too wide.
-fn value(rt: &impl Print, address: u32, n: u32) -> io::Result<()> {
-    let digits = if address::holds(address, n) {
-        match address {
-            address::CSR => 2,
-            address::CFTW0 => 8,
-            address::CPOW0 => 4,
-            _ => 6,
+#[derive(Clone, Copy)]
+struct Value(Write);
+
+impl fmt::Display for Value {
+    #[tactic(auto, using(registers::proofs::Widths::width_most))]
+    fn fmt<W: fmt::Write>(&self, f: &mut fmt::Formatter<W>) -> fmt::Result {
+        let Write { address, value } = self.0;
+        let digits = if address::holds(address, value) {
+            2 * address::width(address)
+        } else {
+            8
+        };
+        let blanks = 10 - digits;
+        write!(f, " 0x{value:0digits$x}{:blanks$}", "")
+    }
+}
+
+/// An action, in 29 columns, and its reply, in thirteen: of a read that did not fail, its value.
+#[derive(Clone, Copy)]
+pub struct Turn {
+    pub action: Action,
+    pub reply: Reply,
+}
+
+impl fmt::Display for Turn {
+    fn fmt<W: fmt::Write>(&self, f: &mut fmt::Formatter<W>) -> fmt::Result {
+        match self.action {
+            Action::Pin(pin, high) => {
+                let pin = if pin == IO_UPDATE {
+                    "io_update"
+                } else {
+                    "reset"
+                };
+                let level = if high { "high" } else { "low" };
+                write!(f, "{pin:<11}{level:<18}")?;
+            }
+            Action::Delay(us) => write!(f, "delay      {us} us              ")?,
+            Action::Configure(mode) => write!(f, "configure  mode {mode}            ")?,
+            Action::Write(address, value) => {
+                let register = Register(address);
+                let value = Value(Write { address, value });
+                write!(f, "write      {register}{value}")?;
+            }
+            Action::Read(address) => {
+                let register = Register(address);
+                write!(f, "read       {register}             ")?;
+            }
         }
-    } else {
-        8
-    };
-    say::hex(rt, b" 0x", n, digits)?;
-    say::part(rt, b"          ", digits, 10)?;
-    Ok(())
-}
-
-fn pin(rt: &impl Print, pin: u32, high: bool) -> io::Result<()> {
-    say::pick(rt, pin == IO_UPDATE, b"io_update  ", b"reset      ")?;
-    say::pick(rt, high, b"high              ", b"low               ")?;
-    Ok(())
-}
-
-// Two words with a number between them.
-fn number(rt: &impl Print, before: &[u8], n: u32, after: &[u8]) -> io::Result<()> {
-    say::decimal(rt, before, n as u64)?;
-    say::text(rt, after)?;
-    Ok(())
-}
-
-// An action, in 29 columns.
-fn action(rt: &impl Print, action: Action) -> io::Result<()> {
-    match action {
-        Action::Nothing => Ok(()),
-        Action::Pin(which, high) => pin(rt, which, high),
-        Action::Delay(us) => number(rt, b"delay      ", us, b" us              "),
-        Action::Configure(mode) => number(rt, b"configure  mode ", mode, b"            "),
-        Action::Write(address, n) => {
-            register(rt, b"write      ", address)?;
-            value(rt, address, n)
-        }
-        Action::Read(address) => {
-            register(rt, b"read       ", address)?;
-            say::text(rt, b"             ")
+        match self.action {
+            _ if self.reply.failed => f.write_str(" failed      "),
+            Action::Read(address) => {
+                let value = self.reply.value;
+                write!(f, "{}", Value(Write { address, value }))
+            }
+            _ => f.write_str(" good        "),
         }
     }
 }
 
-// A reply, in thirteen columns: of a read that did not fail, its value.
-fn reply(rt: &impl Print, action: Action, reply: Reply) -> io::Result<()> {
-    if reply.failed {
-        say::text(rt, b" failed      ")?;
-        return Ok(());
-    }
-    match action {
-        Action::Read(address) => value(rt, address, reply.value),
-        _ => say::text(rt, b" good        "),
-    }
-}
+/// What a reply gave: an answer's number and name, and what a sequence brings at its end.
+#[derive(Clone, Copy)]
+pub struct Answer(pub Result<Option<Outcome>, Refusal>);
 
-// The n-th action and its reply.
-pub fn line(rt: &impl Print, n: usize, a: Action, r: Reply) -> io::Result<()> {
-    say::pick(rt, n < 10, b"\n   ", b"\n  ")?;
-    number(rt, b"", (n % 100) as u32, b"  ")?;
-    action(rt, a)?;
-    reply(rt, a, r)?;
-    Ok(())
-}
-
-pub fn outcome(rt: &impl Print, outcome: Outcome) -> io::Result<()> {
-    match outcome {
-        Outcome::Nothing => Ok(()),
-        Outcome::Driver(driver) => {
-            say::decimal(rt, b", driver of mode ", driver.mode as u64)?;
-            say::float(rt, b" and ratio ", driver.ratio)
-        }
-        Outcome::Float(x) => say::float(rt, b", value ", x),
-        Outcome::Word(n) => say::hex(rt, b", value 0x", n, 2),
-        Outcome::Passed(passed) => say::pick(rt, passed, b", true", b", false"),
-    }
-}
-
-pub fn fault(rt: &impl Print, fault: Fault) -> io::Result<()> {
-    match fault {
-        Fault::None => Ok(()),
-        Fault::Fails(n) => say::decimal(rt, b", failing at action ", n as u64),
-        Fault::Reads(n, value) => {
-            say::decimal(rt, b", action ", n as u64)?;
-            say::hex(rt, b" reads 0x", value, 2)
+impl fmt::Display for Answer {
+    fn fmt<W: fmt::Write>(&self, f: &mut fmt::Formatter<W>) -> fmt::Result {
+        match self.0 {
+            Err(refusal) => write!(f, "{refusal}"),
+            Ok(None) => f.write_str("0 Ok"),
+            Ok(Some(Outcome::Driver(driver))) => {
+                let mode = driver.mode;
+                let ratio = Float(driver.ratio);
+                write!(f, "0 Ok, driver of mode {mode} and ratio {ratio}")
+            }
+            Ok(Some(Outcome::Float(x))) => write!(f, "0 Ok, value {}", Float(x)),
+            Ok(Some(Outcome::Word(n))) => write!(f, "0 Ok, value 0x{n:02x}"),
+            Ok(Some(Outcome::Passed(passed))) => write!(f, "0 Ok, {passed}"),
         }
     }
 }

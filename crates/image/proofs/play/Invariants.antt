@@ -1,12 +1,12 @@
--- Some writes have been passed, and the image shows them. The measure is the bytes left.
-use Rattle.std.proofs.Common.{◌≡◌, ◌-◌, List, length}
-use Rattle.registers.specs.Registers.{Write}
-use Rattle.stream.proofs.Passed.{Passed}
+-- What is left, applied to the image as it is, gives the whole, applied to the image as it came.
+use Rattle.std.proofs.Common.{◌≡◌, length}
+use Rattle.stream.specs.Decoder.{taken, writes_of}
+use Rattle.stream.specs.Left.{items_left}
 use Rattle.image.specs.Image.{apply}
 use Rattle.image.proofs.play.Given as goal
 
-abbrev pub invariant-loop-address : goal.invariant-loop-address
-invariant-loop-address l = (ws : List Write) × Passed l.bytes ws l.at × (l.image ≡ apply ws l.fn.image) × (length l.image ≡ length l.fn.image)
-
-abbrev pub decreases-loop-address : goal.decreases-loop-address
-decreases-loop-address l = length l.bytes - l.at
+abbrev pub invariant-loop-next : goal.invariant-loop-next
+invariant-loop-next l = record {
+  applied : apply (taken (items_left l.next-iterator)) l.image ≡ apply (writes_of l.bytes) l.fn.image;
+  long : length l.image ≡ length l.fn.image;
+}

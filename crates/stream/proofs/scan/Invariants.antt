@@ -1,11 +1,12 @@
--- Some writes have been passed, as many as were counted. The measure is the bytes left.
-use Rattle.std.proofs.Common.{◌≡◌, ◌-◌, List, length}
-use Rattle.registers.specs.Registers.{Write}
-use Rattle.stream.proofs.Passed.{Passed}
+-- The writes so far and those that are left are all.
+use Rattle.std.proofs.Common.{◌≡◌, ◌+◌, ◌≤◌, length}
+use Rattle.stream.specs.Decoder.{all_of, count_of, decode_of}
+use Rattle.stream.specs.Left.{items_left}
+use Rattle.stream.specs.Encoder.{more}
 use Rattle.stream.proofs.scan.Given as goal
 
-abbrev pub invariant-loop-width : goal.invariant-loop-width
-invariant-loop-width l = (ws : List Write) × Passed l.bytes ws l.at × (length ws ≡ l.writes)
-
-abbrev pub decreases-loop-width : goal.decreases-loop-width
-decreases-loop-width l = length l.bytes - l.at
+abbrev pub invariant-loop-write : goal.invariant-loop-write
+invariant-loop-write l = record {
+  counted : more l.seen (count_of (all_of (items_left l.write-iterator))) ≡ count_of (decode_of l.bytes);
+  spare : l.seen + length (items_left l.write-iterator) ≤ length l.bytes;
+}

@@ -1,7 +1,13 @@
-use Rattle.script.proofs.Plays.{played}
+use Rattle.std.proofs.Common.{◌≡◌, sym, ◌∙◌, take, rules}
+use Rattle.script.specs.Meaning.{meaning}
+use Rattle.script.proofs.Plays.{accepted, played}
 use Rattle.script.proofs.play.play.Goals as goal
 
-pub returns-then-complete : goal.returns-then-complete
-returns-then-complete c =
-    let w = c.complete.ensures.whole c.if-complete.true in
-    played _ _ _ _ _ _ _ _ _ c.if-mode-gt3.false w.0 c.if-image-lt-WORDS.false (rw c.run-s.ensures at c.feed.ensures)
+pub returns-clause-judged : goal.returns-clause-judged
+returns-clause-judged c = c.feed.ensures.judged ∙ rw c.run.ensures (accepted _ _ _ _ _ (sym c.new.ensures ∙ c.in_ok-fresh.was) c.if-image-lt-WORDS.false c.if-steps-count.false)
+
+pub returns-clause-played : goal.returns-clause-played
+returns-clause-played c =
+    let means : c.feed.new.image ≡ meaning c.args.mode (take c.args.count c.args.steps.now) c.args.image.now =
+    c.feed.ensures.fed ∙ rw c.run.ensures (played c.args.mode c.args.count c.args.steps.now c.args.image.now _ (sym c.new.ensures ∙ c.in_ok-fresh.was) c.if-image-lt-WORDS.false) in
+    search rules

@@ -1,6 +1,0 @@
-use lib.Ieee.{of_bits, of_int}
-use Rattle.convert.proofs.frequency.ready.Goals as goal
-
-pub returns : goal.returns
-unfolding of_bits of_int
-returns c = c.within.ensures

@@ -1,6 +1,0 @@
-use Rattle.profile.proofs.Sizes.{encode_absent}
-use Rattle.profile.proofs.Puts.{puts_none}
-use Rattle.profile.proofs.lay.given.Goals as goal
-
-pub returns-in-Absent : goal.returns-in-Absent
-returns-in-Absent c = rw (c.in-Absent.is, encode_absent c.args.address) (puts_none c.args.bytes.now c.args.at)

@@ -1,0 +1,46 @@
+-- What the trait asks of start-up: it follows its table.
+use Rattle.std.specs.Prelude.{◌≡◌, ℕ, suc, ◌+◌, ◌-◌, ◌<◌, List, ◌∷◌, get_or, slice_get, Some, take, drop, ltb, refl}
+use Rattle.std.proofs.Common.{sym, ap, ◌∙◌, arith}
+use borrow.Author.Tests.{ltb-true, ltb-false, lt-ltb, le-ltb, eq-eqb, ne_eqb}
+use lib.ListN.{get_or-append}
+use Rattle.registers.proofs.Choice.{by}
+use Rattle.bus.specs.declared.Action.{Action}
+use Rattle.bus.specs.declared.Action.TheVariants.{Delay}
+use Rattle.std.proofs.lemmas.Option.{slice_get-get_or}
+use Rattle.bus.specs.Sequence.{Follows, next}
+use Rattle.bus.proofs.Runs.{next_is}
+use Rattle.startup.specs.declared.Startup.{Startup}
+use Rattle.startup.specs.Startup.{table, csr, word, kept_of, plan, fr1_to, table_of}
+
+-- FR1 has no part in the first 13 steps
+early : (m c w w' k : ℕ) → k < 13 → slice_get (table m c w) k ≡ slice_get (table m c w') k
+early m c w w' k h =
+    let d = Delay 0 in
+    let front : (w : ℕ) → get_or (table m c w) k d ≡ get_or (take 13 (table m c w)) k d = λ w. get_or-append (take 13 (table m c w)) (drop 13 (table m c w)) d k h in
+    slice_get-get_or (table m c w) k d (omega (arith, h)) ∙ ap (λ (a : Action). Some a) (front w ∙ sym (front w')) ∙ sym (slice_get-get_or (table m c w') k d (omega (arith, h)))
+
+fr1_here : (s : Startup) (vs : List ℕ) → slice_get (table_of s vs) s.step ≡ slice_get (plan.table s) s.step
+fr1_here s vs =
+    let P : ℕ → Type 0 = λ x. slice_get (table s.mode (csr s) (word s x)) s.step ≡ slice_get (plan.table s) s.step in
+    by P (ltb s.step 13) (λ e. early s.mode (csr s) _ _ s.step (ltb-true s.step 13 e)) (λ e. refl)
+
+fr1_then : (k v fr1 : ℕ) (vs : List ℕ) → fr1_to (k + 1) vs (kept_of k v fr1) ≡ fr1_to k (v ∷ vs) fr1
+fr1_then k v fr1 vs =
+    let G : ℕ → Type 0 = λ t. fr1_to (k + 1) vs (kept_of k v fr1) ≡ fr1_to k (v ∷ vs) fr1 in
+    by G (ltb k 12) {x = 0} {y = 0}
+    (λ e. let h = ltb-true k 12 e in let z : 12 - k ≡ suc (12 - (k + 1)) = omega arith in simp (lt-ltb (k + 1) 13 (omega arith), lt-ltb k 13 (omega arith), z))
+    (λ e. let h = ltb-false k 12 e in by G (ltb k 13) {x = 0} {y = 0}
+    (λ f. let i = ltb-true k 13 f in let z : 12 - k ≡ 0 = omega arith in simp (le-ltb (k + 1) 13 (omega arith), lt-ltb k 13 i, eq-eqb k 12 (omega arith), z))
+    (λ f. let i = ltb-false k 13 f in simp (le-ltb (k + 1) 13 (omega arith), le-ltb k 13 i, ne_eqb k 12 (λ w. omega arith))))
+
+pub fr1_next : (k v fr1 : ℕ) (vs : List ℕ) → k < 17 → fr1_to (next k) vs (kept_of k v fr1) ≡ fr1_to k (v ∷ vs) fr1
+fr1_next k v fr1 vs h = rw (next_is k 17 h (omega arith)) (fr1_then k v fr1 vs)
+
+pub follows : Follows plan table_of
+unfolding word
+follows = record {
+  long = λ s vs. refl;
+  here = fr1_here;
+  moves = λ s v vs h e. (next_is s.step 17 h (omega arith), ap (λ (x : ℕ). table s.mode (csr s) (word s x)) (fr1_next s.step v s.fr1 vs h));
+  over = λ s. omega arith;
+}
