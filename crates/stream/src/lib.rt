@@ -116,8 +116,8 @@ pub fn decode(bytes: &[u8], addresses: &mut [u32], values: &mut [u32]) -> Result
     Ok(found)
 }
 
-// The address is tested in a line, as in `first`: one judges bytes, the other a write.
 // How many bytes a write takes. A bad one is Address, then Word.
+// The address is tested in a line, as in `first`: one judges bytes, the other a write.
 #[tactic(auto, using(registers::proofs::Widths::width_most))]
 fn size(write: Write) -> Result<usize, Refusal>
     ensures judged { result ≡ size_of write }
