@@ -12,6 +12,7 @@ use profile::lent;
 use registers::refusal;
 use rules::Push;
 
+// The fields stay apart, so that each of the nine arms below is a line.
 #[inline(always)]
 #[tactic(auto, unfolding(profile::specs::Serializer::push_of))]
 fn push(

@@ -105,11 +105,10 @@ impl Script {
         self.told(rt, line, &answer, serializer.length)?;
         match answer {
             Ok(()) => {
-                let padding = profile.padding;
                 self.profile = Some(Profile {
                     serializer,
-                    padding,
                     loose: true,
+                    ..profile
                 });
                 Ok(())
             }

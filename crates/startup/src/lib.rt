@@ -24,6 +24,7 @@ pub struct Startup {
 }
 
 // Three parameters: the record of them is what it makes.
+// The test of a mode stays a line, as in `csr::of`, here and in `legal`.
 pub fn new(mode: u32, reference: f32, multiplier: u32) -> Result<Startup, Refusal>
     ensures { result ≡ new_of mode reference multiplier }
 {
