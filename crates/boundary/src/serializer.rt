@@ -1,4 +1,4 @@
-// A profile: its length and its 32 bytes are the caller's.
+// A profile: its length and its 32 bytes are the caller's. As C has it: numbers for refusals and presence, the fields apart, a place for the count.
 ghost use Rattle.std.specs.Prelude.{◌≡◌, ◌≢◌, length};
 ghost use Rattle.std.specs.Result.{result_unwrap_or};
 ghost use Rattle.registers.specs.Refusals.{number_of};
@@ -12,6 +12,7 @@ use profile::lent;
 use registers::refusal;
 use rules::Push;
 
+// The fields stay apart, so that each of the nine arms below is a line.
 #[inline(always)]
 #[tactic(auto, unfolding(profile::specs::Serializer::push_of))]
 fn push(

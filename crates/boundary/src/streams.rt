@@ -1,4 +1,4 @@
-// Streams and the register image.
+// Streams and the register image. As C has it: a number for a refusal, two lists for the writes, and counts beside buffers.
 ghost use Rattle.std.specs.Prelude.{◌≡◌, ◌≢◌, length};
 ghost use Rattle.std.specs.Result.{result_unwrap_or};
 ghost use Rattle.registers.specs.Bytes.{laid};

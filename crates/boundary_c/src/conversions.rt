@@ -1,4 +1,4 @@
-// From floats to register words and back.
+// From floats to register words and back. As C has it, and as in `boundary`: a number for a refusal, and a place for each value.
 ghost use Rattle.std.specs.Prelude.{◌≡◌};
 ghost use Rattle.std.specs.Result.{result_unwrap_or};
 ghost use Rattle.registers.specs.Refusals.{number_of};

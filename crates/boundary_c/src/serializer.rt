@@ -1,4 +1,4 @@
-// A profile: its length and its 32 bytes are the caller's.
+// A profile: its length and its 32 bytes are the caller's. As C has it, and as in `boundary`: numbers for refusals and presence, the fields apart, a place for the count.
 ghost use Rattle.std.specs.Prelude.{◌≡◌, ◌≢◌, length};
 ghost use Rattle.std.specs.Result.{result_unwrap_or};
 ghost use Rattle.registers.specs.Refusals.{number_of};

@@ -40,7 +40,7 @@ pub fn set(amplitude: f32) -> Result<Setting, Refusal>
     })
 }
 
-// The amplitude of an ACR that was read.
+// The amplitude of an ACR that was read: beside `phase::read`, whose line says why there are two.
 pub fn read(acr: u32) -> Result<f32, Refusal>
     ensures { result ≡ reading_of acr }
 {

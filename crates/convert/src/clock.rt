@@ -4,8 +4,8 @@ ghost use Rattle.convert.specs.Clock.{system_of, allowed, vco_high_of, clock_of}
 
 use registers::refusal::Refusal;
 
-// vco_high is a number, as `fr1::with_clock` takes it and C gets it.
 // A system clock, FR1's vco_high for it as the field's value, and the driver's ratio.
+// vco_high is a number, as `fr1::with_clock` takes it and C gets it.
 #[derive(Clone, Copy)]
 pub struct Clock {
     pub system: f32,

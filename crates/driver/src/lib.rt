@@ -10,7 +10,7 @@ use registers::refusal::Refusal;
 pub mod channel;
 pub mod register;
 
-// The mode, for profiles that are streamed to the chip.
+// The mode, for profiles that are streamed to the chip. The test of a mode stays a line, as in `csr::of`: a call would say no more.
 pub fn freeze(driver: Driver) -> Result<u32, Refusal>
     ensures { result ≡ freeze_of driver }
 {

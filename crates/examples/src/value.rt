@@ -22,7 +22,7 @@ fn setting(
     answered(rt, asked, &setting)?;
     if let Ok(Setting { word, achieved }) = setting {
         print!(rt; "{register} 0x{word:0digits$X}")?;
-        if digits == 8 {
+        if register == "CFTW0" {
             print!(rt; " {word:<10}")?;
         }
         print!(rt; "  achieved {}", f64::from(achieved))?;

@@ -14,8 +14,8 @@ use stream::Writes;
 // The image's words. An image is any slice of so many or more: C hands one in, and `past_stays` speaks of longer ones.
 pub const WORDS: usize = 91;
 
-// By the channel's number: it is the mask's bit, and the image's stride goes by it.
 // Register a of each channel that the mask selects is set to a value.
+// By the channel's number: it is the mask's bit, and the image's stride goes by it.
 fn give(image: &mut [u32], mask: u32, a: usize, value: u32)
     requires long { 91 ≤ length image.old }
     requires named { a < 25 }

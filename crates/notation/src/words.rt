@@ -5,8 +5,8 @@ ghost use Rattle.notation.specs.Lines.{with_place, value_of};
 
 use crate::{Fault, digits};
 
-// No invariant: a part lies within a line only beside that line.
 /// A part of a line, from one place up to another: `read`'s fault has places, so that who reads it can quote the line.
+// No invariant: a part lies within a line only beside that line.
 #[derive(Clone, Copy, Debug, PartialEq, Eq)]
 pub struct Span {
     pub start: usize,
@@ -41,8 +41,8 @@ fn stops(inside: bool, b: u8) -> bool
     }
 }
 
-// That the line stays is said by each method: a `&mut self` may change any field.
 // The words of a line, read one after another from a place on.
+// That the line stays is said by each method: a `&mut self` may change any field.
 #[derive(Drop)]
 pub struct Words<'a> {
     pub line: &'a [u8],

@@ -30,6 +30,7 @@ pub struct Stepped<T> {
 
 impl ProfileSerializer {
     /// An empty profile for a mode.
+    // The test of a mode stays a line, as in `csr::of`: a call would say no more.
     pub fn new(mode: u32) -> Result<ProfileSerializer, Refusal>
         ensures { result ≡ new_of mode }
     {
@@ -66,30 +67,22 @@ impl ProfileSerializer {
 
 /// A push by value, a form that the project promises beside the method: the work is `lent`'s in both.
 #[tactic(auto, unfolding(crate::specs::Serializer::push_of))]
-pub fn push(serializer: ProfileSerializer, push: Push) -> Stepped<()>
+pub fn push(mut serializer: ProfileSerializer, push: Push) -> Stepped<()>
     ensures { result ≡ push_of serializer push }
 {
-    let mut after = serializer;
-    let answer = after.push(push);
-    Stepped {
-        answer,
-        serializer: after,
-    }
+    let answer = serializer.push(push);
+    Stepped { answer, serializer }
 }
 
 /// Finalising by value likewise.
 #[tactic(auto, unfolding(crate::specs::Serializer::finalized_of))]
-pub fn finalize(serializer: ProfileSerializer, words: &mut [u32]) -> Stepped<usize>
+pub fn finalize(mut serializer: ProfileSerializer, words: &mut [u32]) -> Stepped<usize>
     ensures finalized { result ≡ finalize_of serializer (length words.old) }
     ensures handed { OnOk result.answer (words.new ≡ handed serializer words.old) }
     ensures untouched { OnErr result.answer (words.new ≡ words.old) }
 {
-    let mut after = serializer;
-    let answer = after.finalize(words);
-    Stepped {
-        answer,
-        serializer: after,
-    }
+    let answer = serializer.finalize(words);
+    Stepped { answer, serializer }
 }
 
 /// Feeds the profile's bytes to an image of the chip's registers.

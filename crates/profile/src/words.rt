@@ -29,8 +29,8 @@ fn four(bytes: &[u8], n: usize, i: usize, words: &mut [u32])
     words[i + 3] = d;
 }
 
-// Loads first here too: the `for` that would stand for both functions misses the speed.
 // Of n words those from i on, at most three.
+// Loads first here too: the `for` that would stand for both functions misses the speed.
 #[tactic(auto, using(crate::proofs::Left::done, crate::proofs::Left::one_word, crate::proofs::Left::two_words, crate::proofs::Left::three_words))]
 fn rest(bytes: &[u8], n: usize, i: usize, words: &mut [u32])
     requires { (n * 4 ≤ length bytes.now) × (n ≤ length words.old) × (n ≤ 8) × (i ≤ n) × (n ≤ i + 3) }

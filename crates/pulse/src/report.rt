@@ -19,8 +19,8 @@ fn channels(rt: &impl Print, csr: u32) -> io::Result<()> {
     print!(rt; " ")
 }
 
-// A line of each register's own, as its columns differ.
 // A write's place, register and value. A serializer writes no other registers.
+// A line of each register's own, as its columns differ.
 fn head(rt: &impl Print, at: usize, write: Write) -> io::Result<()> {
     let Write { address, value } = write;
     match address {

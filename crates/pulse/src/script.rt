@@ -16,6 +16,7 @@ struct Profile {
 }
 
 /// A script so far: its lines, and what went wrong with them; its profile, once there is one.
+// What prints is lent to each method and is no field: that would put a lifetime and a type parameter on the struct.
 #[derive(Drop)]
 pub struct Script {
     lines: u64,
@@ -104,11 +105,10 @@ impl Script {
         self.told(rt, line, &answer, serializer.length)?;
         match answer {
             Ok(()) => {
-                let padding = profile.padding;
                 self.profile = Some(Profile {
                     serializer,
-                    padding,
                     loose: true,
+                    ..profile
                 });
                 Ok(())
             }

@@ -3,7 +3,7 @@
 --     value_big_endian    reading what was written gives the value
 --     big_endian_value    writing what was read gives the bytes
 --     read_short, read_value   what a reading at a register's width tells
---     write_fits   a value that fits its width is refused by Room alone
+--     write_number_fits   a value that fits its width is refused by Room alone
 use mathlib.Core.Path.{◌≡◌, refl, sym, ◌∙◌}
 use mathlib.Core.List.{List, [], ◌∷◌, ◌++◌, append-nil, append_assoc}
 use Prim.Native.Nat.{ℕ, zero, suc, ◌+◌, ◌-◌, ◌*◌, ◌/◌, ◌%◌, ◌^◌, ◌≤◌, ◌<◌}
@@ -76,8 +76,8 @@ module _ (bs : List ℕ) (at w : ℕ) (h : w ≤ 4) where
       go true k n = absurd (cc)
       go false k n = (ltb-false (length bs) (at + w) k, cc)
 
-pub write_fits : (size at w v : ℕ) → w ≤ 4 → v < 256 ^ w → write_of size at w v ≡ cond (ltb size (at + w)) (Err Room) (Ok tt)
-write_fits size at w v h k = rw (le-ltb 4 w h, lt-leb (256 ^ w) v k)
+pub write_number_fits : (size at w v : ℕ) → w ≤ 4 → v < 256 ^ w → write_of size at w v ≡ cond (ltb size (at + w)) (Err Room) (Ok tt)
+write_number_fits size at w v h k = rw (le-ltb 4 w h, lt-leb (256 ^ w) v k)
 
 -- ---- for the loops: one byte read behind what was read, and the last of what is left stored
 

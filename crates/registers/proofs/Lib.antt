@@ -4,3 +4,4 @@ pub mod Fields
 pub mod Bytes
 pub mod Laid
 pub mod Choice
+pub mod Names

@@ -1,5 +1,5 @@
 -- The refusals, the numbers that come back for them, and their names. Definitions only.
-use Rattle.std.specs.Prelude.{◌≡◌, ◌≢◌, ℕ, List, codes, Result, Ok, Err, MatchResult}
+use Rattle.std.specs.Prelude.{◌≡◌, ◌≢◌, ℕ, cond, eqb, List, [], codes, Result, Ok, Err, MatchResult}
 use Rattle.registers.specs.declared.refusal.Refusal.{Refusal}
 use Rattle.registers.specs.declared.refusal.Refusal.TheVariants.{Interface, Check, Bounds, Pin, Frequency, Mask, Mode, Word, Room, Address, Short, NotReady, Over}
 use Rattle.registers.specs.declared.refusal.NoRefusal.{NoRefusal}
@@ -49,6 +49,25 @@ name_of Over = codes "Over"
 abbrev pub answer_name : {T : Type 0} → Result T Refusal → List ℕ
 answer_name (Ok value) = codes "Ok"
 answer_name (Err refusal) = name_of refusal
+
+-- the name that goes with a number, and no letter where no refusal has it
+abbrev pub name_at : ℕ → List ℕ
+name_at n =
+    cond (eqb n 0) (codes "Ok")
+    (cond (eqb n 1) (name_of Interface)
+    (cond (eqb n 2) (name_of Check)
+    (cond (eqb n 3) (name_of Bounds)
+    (cond (eqb n 4) (name_of Pin)
+    (cond (eqb n 5) (name_of Frequency)
+    (cond (eqb n 6) (name_of Mask)
+    (cond (eqb n 7) (name_of Mode)
+    (cond (eqb n 8) (name_of Word)
+    (cond (eqb n 9) (name_of Room)
+    (cond (eqb n 10) (name_of Address)
+    (cond (eqb n 11) (name_of Short)
+    (cond (eqb n 12) (name_of NotReady)
+    (cond (eqb n 13) (name_of Over)
+    [])))))))))))))
 
 -- the refusal with a number, or that no refusal has it
 abbrev pub Names : ℕ → Result Refusal NoRefusal → Type 0

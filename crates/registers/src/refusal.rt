@@ -1,6 +1,6 @@
 // Why a call is refused.
 ghost use Rattle.std.specs.Prelude.{◌≡◌, ◌++◌, Some, codes, decimal};
-ghost use Rattle.registers.specs.Refusals.{number, number_of, name_of, answer_name, Names};
+ghost use Rattle.registers.specs.Refusals.{number, number_of, name_of, answer_name, name_at, Names};
 
 use std::error::Error;
 use std::fmt;
@@ -69,6 +69,18 @@ pub fn name<T>(answer: &Result<T, Refusal>) -> &'static str
     match answer {
         Ok(_) => "Ok",
         Err(refusal) => refusal.name(),
+    }
+}
+
+/// The name that goes with a number: "Ok" for 0, and no letter above 13.
+#[tactic(auto, using(crate::proofs::Names::name_at_number, crate::proofs::Names::name_at_none))]
+pub fn name_at(number: u32) -> &'static str
+    ensures { result.now ≡ name_at number }
+{
+    match Refusal::try_from(number) {
+        Ok(refusal) => refusal.name(),
+        Err(_) if number == 0 => "Ok",
+        Err(_) => "",
     }
 }
 

@@ -11,8 +11,8 @@ pub struct Line {
     open: Option<u32>,
 }
 
-// 0 and no `None` behind the last: every reader would take it for 0.
 /// The numbers of a line, one after another: 0 behind the last.
+// 0 and no `None` behind the last: every reader would take it for 0.
 #[derive(Clone, Copy)]
 pub struct Numbers<'a> {
     rest: &'a [u32],

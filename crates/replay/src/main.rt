@@ -18,8 +18,8 @@ struct Count {
     differ: u32,
 }
 
-// The kind is matched once, on the line's number: an enum would be made of it here and taken apart at once.
 // Whether the port gives what a line says. Its first number is its kind.
+// The kind is matched once, on the line's number: an enum would be made of it here and taken apart at once.
 fn same(mut numbers: Numbers) -> bool {
     match numbers.next() {
         1 => sequences::started(numbers),

@@ -8,8 +8,8 @@ use host::{Kind, Outcome};
 use registers::address;
 use registers::refusal::{self, Refusal};
 
-// A function and no `From`: an action and an array are both other crates' types.
 // An action as numbers: its kind, and its one or two.
+// A function and no `From`: an action and an array are both other crates' types.
 fn numbers_of(action: Action) -> [u32; 3] {
     match action {
         Action::Pin(pin, high) => [1, pin, high as u32],
@@ -20,7 +20,7 @@ fn numbers_of(action: Action) -> [u32; 3] {
     }
 }
 
-// A driver's record is not the original's to show.
+// An answer's result: 0 of a driver's record, which is not the original's to show. A function and no `From`, as above.
 fn number_of(answer: Result<Option<Outcome>, Refusal>) -> u32 {
     match answer {
         Ok(Some(Outcome::Float(x))) => binary32::to_bits(x),
@@ -30,8 +30,8 @@ fn number_of(answer: Result<Option<Outcome>, Refusal>) -> u32 {
     }
 }
 
-// Not by `bus::run`: what is compared turn by turn would be fields of a `Bus`, and no shorter.
 // Twenty turns: no sequence has more than 17 actions. What fails, the number, the result, the count, the actions.
+// Not by `bus::run`: what is compared turn by turn would be fields of a `Bus`, and no shorter.
 fn played(mut sequence: Kind, mut numbers: Numbers) -> bool {
     let failing = numbers.next();
     let number = numbers.next();
@@ -66,9 +66,9 @@ pub fn started(mut numbers: Numbers) -> bool {
     }
 }
 
+// A setting of a register or its reading.
 // A match and no closures: each arm is another function of the driver, picked once.
 // Driver and mask stay two parameters, as driver's functions take them.
-// A setting of a register or its reading.
 fn begun(
     driver: Driver,
     register: u32,

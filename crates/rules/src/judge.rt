@@ -22,7 +22,7 @@ fn above(most: u32, value: Option<u32>) -> bool
     value.is_some_and(|v| most < v)
 }
 
-// The length behind a push, or why it is refused.
+// The length behind a push, or why it is refused. The tests of mode and mask stay a line each, as in `csr::of`: their order is read off them.
 #[tactic(auto, using(crate::proofs::Lengths::held_below), unfolding(crate::specs::Rules::push_judged, registers::specs::Registers::width_of))]
 pub fn push(mode: u32, length: usize, push: Push) -> Result<usize, Refusal>
     ensures judged { result ≡ push_judged mode length push }
@@ -52,7 +52,7 @@ pub fn quarter(length: usize) -> usize
     length / 4 + (length % 4 + 1) / 2
 }
 
-// How many words finalising hands out, or why it is refused.
+// How many words finalising hands out, or why it is refused. The test of a mode stays a line, as in `csr::of`.
 #[tactic(auto, using(crate::proofs::Lengths::padding_fits), unfolding(crate::specs::Rules::finalize_judged))]
 pub fn finalize(mode: u32, length: usize, words: usize) -> Result<usize, Refusal>
     ensures judged { result ≡ finalize_judged mode length words }

@@ -9,14 +9,13 @@ use profile::ProfileSerializer;
 use registers::refusal::Refusal;
 
 // The serializer that the steps reach.
-fn run(serializer: ProfileSerializer, steps: &[Step]) -> ProfileSerializer
+fn run(mut serializer: ProfileSerializer, steps: &[Step]) -> ProfileSerializer
     ensures { result ≡ run serializer steps.now }
 {
-    let mut reached = serializer;
     for &step in steps {
-        reached = crate::step_by(reached, step).serializer;
+        serializer = crate::step_by(serializer, step).serializer;
     }
-    reached
+    serializer
 }
 
 /// Plays so many steps on a new serializer and feeds its bytes to an image.

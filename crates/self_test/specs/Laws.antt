@@ -1,16 +1,21 @@
 -- What the trait asks of the self test: it follows its table.
-use Rattle.std.specs.Prelude.{◌≡◌, ℕ, zero, suc, ◌+◌, Bool, cond, List, eqb, get_or, slice_get, refl}
+use Rattle.std.specs.Prelude.{◌≡◌, ℕ, zero, suc, ◌+◌, Bool, cond, List, length, eqb, get_or, slice_get, refl}
 use Rattle.std.proofs.Common.{ap, arith}
 use borrow.Author.Tests.{ne_eqb}
 use lib.Dec.{eqb-suc-zero}
 use Rattle.bus.specs.Sequence.{Follows}
 use Rattle.bus.proofs.Runs.{next_is}
+use Rattle.self_test.specs.declared.SelfTest.{SelfTest}
 use Rattle.self_test.specs.SelfTest.{table, plan, table_of}
 
 -- the first step is the same whatever the byte is
 first_same : (k old : ℕ) (vs : List ℕ) → slice_get (table (cond (eqb k 0) (get_or vs 0 0) old)) k ≡ slice_get (table old) k
 first_same zero old vs = refl
 first_same (suc k) old vs = ap (λ (b : Bool). slice_get (table (cond b (get_or vs 0 0) old)) (suc k)) (eqb-suc-zero k)
+
+-- six steps, of any record
+pub many : (s : SelfTest) → length (plan.table s) ≡ 6
+many s = refl
 
 pub follows : Follows plan table_of
 follows = record {

@@ -9,8 +9,8 @@ use bus::{Action, Sequence};
 use registers::address;
 use registers::refusal::Refusal;
 
-// The step stays a number, by which its table is read: a record made by hand may have any, as `Plan` has it.
 // The step, and the byte that was read first.
+// The step stays a number, by which its table is read: a record made by hand may have any, as `Plan` has it.
 #[derive(Clone, Copy, Debug, PartialEq, Eq)]
 pub struct SelfTest {
     pub step: u32,

@@ -1,5 +1,5 @@
 -- What the trait asks of start-up: it follows its table.
-use Rattle.std.specs.Prelude.{◌≡◌, ℕ, suc, ◌+◌, ◌-◌, ◌<◌, List, ◌∷◌, get_or, slice_get, Some, take, drop, ltb, refl}
+use Rattle.std.specs.Prelude.{◌≡◌, ℕ, suc, ◌+◌, ◌-◌, ◌<◌, List, ◌∷◌, length, get_or, slice_get, Some, take, drop, ltb, refl}
 use Rattle.std.proofs.Common.{sym, ap, ◌∙◌, arith}
 use borrow.Author.Tests.{ltb-true, ltb-false, lt-ltb, le-ltb, eq-eqb, ne_eqb}
 use lib.ListN.{get_or-append}
@@ -35,6 +35,10 @@ fr1_then k v fr1 vs =
 
 pub fr1_next : (k v fr1 : ℕ) (vs : List ℕ) → k < 17 → fr1_to (next k) vs (kept_of k v fr1) ≡ fr1_to k (v ∷ vs) fr1
 fr1_next k v fr1 vs h = rw (next_is k 17 h (omega arith)) (fr1_then k v fr1 vs)
+
+-- 17 steps, of any record
+pub many : (s : Startup) → length (plan.table s) ≡ 17
+many s = refl
 
 pub follows : Follows plan table_of
 unfolding word

@@ -12,8 +12,8 @@ use convert::{Driver, clock};
 use registers::address;
 use registers::refusal::Refusal;
 
-// The step stays a number, by which its table is read: a record made by hand may have any, as `Plan` has it.
 // The step, what was asked for, and the FR1 that was read.
+// The step stays a number, by which its table is read: a record made by hand may have any, as `Plan` has it.
 #[derive(Clone, Copy)]
 pub struct Startup {
     pub step: u32,
@@ -24,6 +24,7 @@ pub struct Startup {
 }
 
 // Three parameters: the record of them is what it makes.
+// The test of a mode stays a line, as in `csr::of`, here and in `legal`.
 pub fn new(mode: u32, reference: f32, multiplier: u32) -> Result<Startup, Refusal>
     ensures { result ≡ new_of mode reference multiplier }
 {
@@ -56,7 +57,7 @@ impl Startup {
             && (self.step < 12 || self.clock().is_ok())
     }
 
-    // All channels in the mode: a mode above 3, which `legal` shuts out, has no CSR.
+    // All channels in the mode. A mode above 3, which `legal` shuts out, has no CSR: 0, as the definition `csr` has it of such a record.
     fn csr(self) -> u32
         ensures { result ≡ csr self }
     {

@@ -1,36 +1,58 @@
--- The writes of two lists that are left from an index on, and how many bytes they take.
---     rest_zero, rest_end, rest_cons   all, none, and one more
+-- The writes that a walk over two lists side by side has left, and how many bytes they take.
+--     rest_all, rest_end, rest_cons    all, none, and one more
 --     fault_clear, fault_none          a write is refused exactly if it names no register that holds its value
 --     good_head                        the first of good writes is good, and so are the others
 --     sizes_length                     good writes take as many bytes as their encoding has
-use Rattle.std.proofs.Common.{◌≡◌, ℕ, suc, ◌+◌, ◌-◌, ◌^◌, ◌≤◌, ◌<◌, Bool, true, false, cond, List, [], ◌∷◌, length, get_or, drop, refl, ap, ◌∙◌, arith, add-one, drop-cons, Result, Ok, Err}
-use native.Mathlib.Nat.{sub-zero}
+use Rattle.std.proofs.Common.{◌≡◌, ℕ, zero, suc, ◌+◌, ◌^◌, ◌<◌, Bool, true, false, cond, List, [], ◌∷◌, length, take, refl, ap, ◌∙◌, arith, Result, Ok, Err, Option, Some, None, ◌⊎◌, inl, inr, Bor, Iter}
 use borrow.Author.Tests.{lt-ltb, le-ltb, ltb-true, ltb-false}
 use lib.Dec.{ltb}
 use Rattle.registers.specs.declared.refusal.Refusal.{Refusal}
 use Rattle.registers.specs.declared.refusal.Refusal.TheVariants.{Address, Word}
 use Rattle.registers.specs.Registers.{Write, wrote, width_of, holds}
+use Rattle.std.specs.declared.iter.Zip.{Zip}
+use Rattle.std.specs.Iterator.Adapters.{zip_first, zip_second}
+use Rattle.std.specs.Slice.Iter.{iter_rest}
+use Rattle.std.proofs.iter.Yields.{fronts}
+use Rattle.std.proofs.lemmas.Iterator.{zips}
+use Rattle.std.proofs.lemmas.Slice.Zip.{Zip-more, either_empty_from_Zip}
 use Rattle.stream.specs.Streams.{encode}
 use Rattle.stream.specs.Encoder.{size_of, pairs, more, plus, sizes_of}
 use Rattle.stream.proofs.Streams.{size_cons}
 
-abbrev pub rest : ℕ → List ℕ → List ℕ → ℕ → List Write
-rest n a v i = pairs (n - i) (drop i a) (drop i v)
+abbrev pub beside : List ℕ → List ℕ → List Write
+beside a v = pairs (length a) a v
 
-pub rest_zero : (n : ℕ) (a v : List ℕ) → pairs n a v ≡ rest n a v 0
-rest_zero n a v = rw sub-zero
+abbrev pub rest : Zip (Iter ℕ) (Iter ℕ) → List Write
+rest z = beside (iter_rest (zip_first z)) (iter_rest (zip_second z))
 
-pub rest_end : (n : ℕ) (a v : List ℕ) (i : ℕ) → n ≤ i → rest n a v i ≡ []
+take_beside : (n : ℕ) (a v : List ℕ) → beside (take n a) (take n v) ≡ pairs n a v
 unfolding pairs
-rest_end n a v i h = let p : n - i ≡ 0 = omega arith in rw p
+take_beside zero a v = refl
+take_beside (suc n) [] v = refl
+take_beside (suc n) (x ∷ a) [] = refl
+take_beside (suc n) (x ∷ a) (y ∷ v) = ap (λ ws. wrote x y ∷ ws) (take_beside n a v)
 
-pub rest_cons : (n : ℕ) (a v : List ℕ) (i : ℕ) → i < n → n ≤ length a → n ≤ length v → rest n a v i ≡ wrote (get_or a i 0) (get_or v i 0) ∷ rest n a v (i + 1)
+pub rest_all : (z : Zip (Iter ℕ) (Iter ℕ)) (n : ℕ) (a v : List ℕ) → iter_rest (zip_first z) ≡ take n a → iter_rest (zip_second z) ≡ take n v → rest z ≡ pairs n a v
+rest_all z n a v h k = rw (h, k) (take_beside n a v)
+
+beside_none : (a : List ℕ) → beside a [] ≡ []
 unfolding pairs
-rest_cons n a v i h k l =
-    let p : n - i ≡ suc (n - (i + 1)) = omega arith in
-    let s : i < length a = omega arith in
-    let t : i < length v = omega arith in
-    rw (p, drop-cons a i 0 s, drop-cons v i 0 t, add-one)
+beside_none [] = refl
+beside_none (x ∷ a) = refl
+
+-- one turn of a walk over both: its write, or the end
+module _ (s t : Zip (Iter ℕ) (Iter ℕ)) (r : Option (Bor ℕ × Bor ℕ)) where
+  pub rest_cons : (p : Bor ℕ × Bor ℕ) → r ≡ Some p → zips fronts fronts s r t → rest s ≡ wrote p.0.now p.1.now ∷ rest t
+  unfolding pairs
+  rest_cons p e h = let k = Zip-more s t r p e h in rw (k.0, k.1)
+
+  pub rest_end : r ≡ None → zips fronts fronts s r t → rest s ≡ []
+  unfolding pairs
+  rest_end e h = go (either_empty_from_Zip s t r e h)
+    where
+      go : (iter_rest (zip_first s) ≡ []) ⊎ (iter_rest (zip_second s) ≡ []) → rest s ≡ []
+      go (inl p) = rw p
+      go (inr p) = rw p (beside_none (iter_rest (zip_first s)))
 
 pub fault_none : (w : Write) (n : ℕ) → size_of w ≡ Ok n → (w.address < 25) × (w.value < 256 ^ width_of w.address) × (n ≡ suc (width_of w.address))
 fault_none w n = go (ltb 24 w.address) (holds w.address w.value) refl refl
@@ -72,17 +94,16 @@ more_more : (m n : ℕ) (r : Result ℕ Refusal) → more (m + n) r ≡ more m (
 more_more m n (Ok k) = ap Ok (omega arith)
 more_more m n (Err e) = refl
 
--- from an index on, with so many counted before: one more is counted, or refused, or there is none
-module _ (n : ℕ) (a v : List ℕ) (i m : ℕ) where
-  module _ (h : i < n) (k : n ≤ length a) (l : n ≤ length v) where
-    pub rest_more : (s : ℕ) → size_of (wrote (get_or a i 0) (get_or v i 0)) ≡ Ok s → more (m + s) (sizes_of (rest n a v (i + 1))) ≡ more m (sizes_of (rest n a v i))
-    unfolding sizes_of
-    rest_more s e = rw (rest_cons n a v i h k l, e) (more_more m s (sizes_of (rest n a v (i + 1))))
-
-    pub rest_bad : (e : Refusal) → size_of (wrote (get_or a i 0) (get_or v i 0)) ≡ Err e → more m (sizes_of (rest n a v i)) ≡ Err e
-    unfolding sizes_of
-    rest_bad e f = rw (rest_cons n a v i h k l, f)
-
-  pub rest_none : n ≤ i → more m (sizes_of (rest n a v i)) ≡ Ok m
+-- so many counted before: one more is counted, or refused
+module _ (w : Write) (ws rs : List Write) (m : ℕ) (h : rs ≡ w ∷ ws) where
+  pub rest_more : (s : ℕ) → size_of w ≡ Ok s → more (m + s) (sizes_of ws) ≡ more m (sizes_of rs)
   unfolding sizes_of
-  rest_none h = rw (rest_end n a v i h) (ap Ok (omega arith))
+  rest_more s e = rw (h, e) (more_more m s (sizes_of ws))
+
+  pub rest_bad : (e : Refusal) → size_of w ≡ Err e → more m (sizes_of rs) ≡ Err e
+  unfolding sizes_of
+  rest_bad e f = rw (h, f)
+
+pub rest_none : (m : ℕ) (rs : List Write) → rs ≡ [] → more m (sizes_of rs) ≡ Ok m
+unfolding sizes_of
+rest_none m rs h = rw h (ap Ok (omega arith))

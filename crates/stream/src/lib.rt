@@ -116,8 +116,8 @@ pub fn decode(bytes: &[u8], addresses: &mut [u32], values: &mut [u32]) -> Result
     Ok(found)
 }
 
-// The address is tested in a line, as in `first`: one judges bytes, the other a write.
 // How many bytes a write takes. A bad one is Address, then Word.
+// The address is tested in a line, as in `first`: one judges bytes, the other a write.
 #[tactic(auto, using(registers::proofs::Widths::width_most))]
 fn size(write: Write) -> Result<usize, Refusal>
     ensures judged { result ≡ size_of write }
@@ -149,24 +149,20 @@ pub fn lay(bytes: &mut [u8], at: usize, write: Write) -> Result<usize, Refusal>
     Ok(at + size)
 }
 
-// How many bytes the writes take, or the refusal of the first bad one. By places: of two lists side by side (`zip`) a proof would need both iterators.
-#[tactic(auto, using(crate::proofs::Rest::rest_zero, crate::proofs::Rest::more_none, crate::proofs::Rest::rest_more, crate::proofs::Rest::rest_none))]
+// How many bytes the writes take, or the refusal of the first bad one. Both lists are cut to the count: with one cut, each turn would test two ends.
 fn measure(addresses: &[u32], values: &[u32], count: usize) -> Result<usize, Refusal>
     requires addresses { count ≤ length addresses.now }
     requires values { count ≤ length values.now }
     ensures { result ≡ sizes_of (pairs count addresses.now values.now) }
 {
     let mut bytes = 0;
-    for i in 0..count {
-        bytes += size(Write {
-            address: addresses[i],
-            value: values[i],
-        })?;
+    for (&address, &value) in addresses[..count].iter().zip(&values[..count]) {
+        bytes += size(Write { address, value })?;
     }
     Ok(bytes)
 }
 
-// Lays the writes over the front of the bytes, by places likewise.
+// Lays the writes over the front of the bytes.
 fn lay_each(addresses: &[u32], values: &[u32], count: usize, bytes: &mut [u8])
     requires addresses { count ≤ length addresses.now }
     requires values { count ≤ length values.now }
@@ -175,16 +171,8 @@ fn lay_each(addresses: &[u32], values: &[u32], count: usize, bytes: &mut [u8])
     ensures { bytes.new ≡ laid bytes.old 0 (encode (pairs count addresses.now values.now)) }
 {
     let mut at = 0;
-    for i in 0..count {
-        at = lay(
-            bytes,
-            at,
-            Write {
-                address: addresses[i],
-                value: values[i],
-            },
-        )
-        .unwrap();
+    for (&address, &value) in addresses[..count].iter().zip(&values[..count]) {
+        at = lay(bytes, at, Write { address, value }).unwrap();
     }
 }
 

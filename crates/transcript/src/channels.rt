@@ -31,8 +31,8 @@ impl fmt::Display for Wish {
     }
 }
 
-// Driver and mask stay two parameters, as driver's functions take them.
 /// Where something is done.
+// Driver and mask stay two parameters, as driver's functions take them.
 pub fn on(rt: &impl Print, driver: Driver, mask: u32) -> io::Result<()> {
     let ratio = Float(driver.ratio);
     print!(rt; " in mode {}, mask {mask}, ratio {ratio}", driver.mode)

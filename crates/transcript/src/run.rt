@@ -43,8 +43,8 @@ impl Trial {
     }
 }
 
-// Not by `bus::run`: a turn shows the answer to its reply, which a `Bus` isn't told.
 /// Twenty turns: no sequence has more than 17 actions. What the last reply brought.
+// Not by `bus::run`: a turn shows the answer to its reply, which a `Bus` isn't told.
 pub fn play(rt: &impl Print, mut sequence: Kind, trial: Trial) -> io::Result<Option<Outcome>> {
     let mut chip = Chip::new(trial.fault);
     let mut count = 0;

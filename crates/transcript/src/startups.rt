@@ -7,8 +7,8 @@ use host::{Kind, Outcome};
 use registers::refusal;
 use std::io;
 
-// Mode, reference and multiplier are what `startup::new` takes.
 /// A start-up of a mode, on a reference and a multiplier.
+// Mode, reference and multiplier are what `startup::new` takes.
 pub fn title(rt: &impl Print, mode: u32, reference: f32, multiplier: u32) -> io::Result<()> {
     print!(rt;
         "\nstart-up, mode {mode}, clock {} x {multiplier}",

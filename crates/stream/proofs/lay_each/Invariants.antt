@@ -6,9 +6,9 @@ use Rattle.stream.specs.Encoder.{pairs, sizes_of}
 use Rattle.stream.proofs.Rest.{rest}
 use Rattle.stream.proofs.lay_each.Given as goal
 
-abbrev pub invariant-loop-i : goal.invariant-loop-i
-invariant-loop-i l =
-    let left = rest l.count l.addresses l.values l.i in record {
+abbrev pub invariant-loop-address : goal.invariant-loop-address
+invariant-loop-address l =
+    let left = rest l.address-iterator in record {
       long : length l.bytes ≡ length l.fn.bytes;
       good : sizes_of left ≡ Ok (length (encode left));
       room : l.at + length (encode left) ≤ length l.bytes;

@@ -4,4 +4,4 @@ use Rattle.script.specs.Runs.{run}
 use Rattle.script.proofs.play.run.Given as goal
 
 abbrev pub invariant-loop-step : goal.invariant-loop-step
-invariant-loop-step l = run l.reached (drop l.step-index l.steps) ≡ run l.fn.serializer l.steps
+invariant-loop-step l = run l.serializer (drop l.step-index l.steps) ≡ run l.fn.serializer l.steps
