@@ -2,6 +2,7 @@ pub mod Accepted
 pub mod Bytes
 pub mod Follows
 pub mod Stays
+pub mod Lands
 pub mod Runs
 pub mod Words
 pub mod Plays
