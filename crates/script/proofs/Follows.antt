@@ -73,7 +73,7 @@ apply_given : (mask a : ℕ) (v : Option ℕ) (image : List ℕ) → 3 ≤ a →
 apply_given mask a (Some v) image h e = rw (le-ltb a 3 h, e)
 apply_given mask a None image h e = refl
 
-selected_gives : (mask a : ℕ) (v : Option ℕ) (image : List ℕ) → 3 ≤ a → selected image ≡ mask → selected (gives mask a v image) ≡ mask
+pub selected_gives : (mask a : ℕ) (v : Option ℕ) (image : List ℕ) → 3 ≤ a → selected image ≡ mask → selected (gives mask a v image) ≡ mask
 selected_gives mask a (Some v) image h e = selected_give mask a v image h ∙ e
 selected_gives mask a None image h e = e
 

@@ -1,5 +1,6 @@
 -- Where padding lands, word by word.
 --     give_word   a register given to the channels of a mask is set at exactly those
+--     chosen      after a push the channels that are selected, where padding lands, are the push's
 --     pads        after a finalisation CSR, if touched, has the mode and all channels, an LSRR that is touched is zero, and every other word is as it was
 use mathlib.Core.Path.{◌≡◌, refl, ap, ◌∙◌}
 use mathlib.Core.Bool.{Bool, true, false, cond, ◌&&◌, ◌||◌}
@@ -11,11 +12,14 @@ use lib.Dec.{eqb}
 use lib.ListN.{length, get_or, set, length-set}
 use lib.Seq.{get_or-set_other, get_or-set_same}
 use Rattle.registers.proofs.Choice.{by}
-use Rattle.registers.specs.Registers.{CSR, LSRR}
+use Rattle.registers.specs.Registers.{CSR, CFTW0, CPOW0, ACR, LSRR}
 use Rattle.bitfields.specs.Csr.{byte_of}
 use Rattle.image.specs.Image.{selects, reaches, give_to, give, selected, select}
-use Rattle.image.proofs.Images.{length_give}
-use Rattle.script.specs.declared.Step.TheVariants.{Finalize}
+use Rattle.image.proofs.Images.{length_give, selected_select}
+use Rattle.rules.specs.declared.Push as given
+use Rattle.rules.specs.Rules.{word_of}
+use Rattle.script.proofs.Follows.{selected_gives}
+use Rattle.script.specs.declared.Step.TheVariants.{Push, Finalize}
 use Rattle.script.specs.Meaning.{padded_by, effect_at, padding_touches, touches_at}
 
 length_give_to : (n mask a v : ℕ) (image : List ℕ) → length (give_to n mask a v image) ≡ length image
@@ -43,6 +47,13 @@ give_word zero mask a v image j h k l = refl
 give_word (suc i) mask a v image j h k l =
     store_if (eqb j (22 * i + a)) (selects mask i) (22 * i + a) v (give_to i mask a v image) j (omega (arith, length_give_to i mask a v image)) refl
     ∙ either (eqb j (22 * i + a) && selects mask i) (reaches i mask a j) v _ _ (give_word i mask a v image j (omega arith) k l)
+
+pub chosen : (mode n : ℕ) (p : given.Push) (image : List ℕ) → mode ≤ 3 → 0 < length image → selected (effect_at mode n (Push p) image) ≡ p.mask
+unfolding effect_at
+chosen mode n p image h l =
+    selected_gives p.mask ACR p.acr _ (omega arith)
+    (selected_gives p.mask CPOW0 p.phase _ (omega arith)
+    (selected_gives p.mask CFTW0 (word_of p.word) _ (omega arith) (selected_select mode p.mask image l h)))
 
 module _ (mode : ℕ) (image : List ℕ) (j : ℕ) (l : 91 ≤ length image) where
   -- what padding leaves in a word that it touches
