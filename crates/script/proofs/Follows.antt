@@ -3,6 +3,7 @@
 --     decodes      they decode, so feeding them is never refused
 --     run_length   at most 32 bytes are meant
 --     run_bytes    the record keeps its 32 bytes
+--     run_all      and each of them is below 256
 -- Along a run some good writes are kept in mind: their encoding is the stream so far, and applied to the image they give what has been told so far.
 use mathlib.Core.Path.{◌≡◌, refl, sym, ap, ◌∙◌}
 use mathlib.Core.Bool.{Bool, true, false, cond, ◌||◌, true≢false}
@@ -17,6 +18,7 @@ use Rattle.registers.specs.declared.refusal.Refusal.{Refusal}
 use Rattle.registers.specs.declared.refusal.Refusal.TheVariants.{Mask, Mode, Word, Room}
 use Rattle.registers.specs.Registers.{Write, width_of, CFTW0, CPOW0, ACR}
 use Rattle.registers.specs.Bytes.{laid}
+use Rattle.registers.proofs.Bytes.{AllBytes}
 use Rattle.registers.proofs.Laid.{length_laid, laid_below}
 use Rattle.stream.specs.Streams.{encode, Good}
 use Rattle.stream.specs.Decoder.{decode_of}
@@ -37,10 +39,11 @@ use Rattle.script.specs.declared.Step.{Step}
 use Rattle.script.specs.declared.Step.TheVariants.{Push, Finalize}
 use Rattle.script.specs.Meaning.{Told, gives, padded_by, answer_at, size_at, effect_at, tell, tell_all, meaning}
 use Rattle.script.specs.Runs.{step_of, run}
+use Rattle.script.proofs.Bytes.{zeros, all_laid, all_encoded}
 
 -- ---- tests that did not refuse
 
-clear : {A : Type 0} (b : Bool) (e : Refusal) (r : Result A Refusal) → is_ok (cond b (Err e) r) ≡ true → (b ≡ false) × (is_ok r ≡ true)
+pub clear : {A : Type 0} (b : Bool) (e : Refusal) (r : Result A Refusal) → is_ok (cond b (Err e) r) ≡ true → (b ≡ false) × (is_ok r ≡ true)
 clear true e r h = absurd (true≢false (sym h))
 clear false e r h = (refl, h)
 
@@ -48,7 +51,7 @@ answered : {A : Type 0} (r : Result A Refusal) → is_ok (answer_of r) ≡ is_ok
 answered (Ok x) = refl
 answered (Err e) = refl
 
-neither : (a b : Bool) → a || b ≡ false → (a ≡ false) × (b ≡ false)
+pub neither : (a b : Bool) → a || b ≡ false → (a ≡ false) × (b ≡ false)
 neither true b e = absurd (true≢false e)
 neither false b e = (refl, e)
 
@@ -70,7 +73,7 @@ apply_given : (mask a : ℕ) (v : Option ℕ) (image : List ℕ) → 3 ≤ a →
 apply_given mask a (Some v) image h e = rw (le-ltb a 3 h, e)
 apply_given mask a None image h e = refl
 
-selected_gives : (mask a : ℕ) (v : Option ℕ) (image : List ℕ) → 3 ≤ a → selected image ≡ mask → selected (gives mask a v image) ≡ mask
+pub selected_gives : (mask a : ℕ) (v : Option ℕ) (image : List ℕ) → 3 ≤ a → selected image ≡ mask → selected (gives mask a v image) ≡ mask
 selected_gives mask a (Some v) image h e = selected_give mask a v image h ∙ e
 selected_gives mask a None image h e = e
 
@@ -106,7 +109,7 @@ module _ (mode : ℕ) (legal : mode ≤ 3) where
   padding_does (suc (suc (suc r))) image = refl
 
   -- an accepted step's writes can be encoded, and the length stays within 32
-  accepted : (n : ℕ) (step : Step) → is_ok (answer_at mode n step) ≡ true → Good (writes_at mode n step) × (n + size_at mode n step ≤ 32)
+  pub accepted : (n : ℕ) (step : Step) → is_ok (answer_at mode n step) ≡ true → Good (writes_at mode n step) × (n + size_at mode n step ≤ 32)
   unfolding answer_at size_at push_judged finalize_judged push_writes padding_writes width_of
   accepted n (Push p) e =
       let m = n + push_size p in
@@ -152,6 +155,7 @@ module _ (mode : ℕ) (legal : mode ≤ 3) where
       good : Good ws
       stream : take x.length bs ≡ encode ws
       room : length bs ≡ 32
+      bytes : AllBytes bs
       short : x.length ≤ 32
       told : apply ws image₀ ≡ x.image
 
@@ -169,6 +173,7 @@ module _ (mode : ℕ) (legal : mode ≤ 3) where
           good = good_append r.ws ws r.good ok.0;
           stream = rw (← size) (laid_below bs n (encode ws) (omega arith) ∙ rw (r.stream, encode_append));
           room = length_laid bs n (encode ws) h ∙ r.room;
+          bytes = all_laid bs n (encode ws) r.bytes (all_encoded ws ok.0);
           short = ok.1;
           told = apply_append r.ws ws image₀ ∙ rw r.told (effective n step x.image (omega (arith, length_apply r.ws image₀, ap length r.told)));
         }
@@ -188,7 +193,7 @@ module _ (mode : ℕ) (legal : mode ≤ 3) where
     unfolding encode
     from_new P f steps =
         follow P f steps (replicate 32 0) (record { length = 0; image = image₀ })
-        (record { ws = []; good = tt; stream = refl; room = refl; short = omega arith; told = refl })
+        (record { ws = []; good = tt; stream = refl; room = refl; bytes = zeros 32; short = omega arith; told = refl })
 
 pub script : (mode : ℕ) (steps : List Step) (image : List ℕ) → mode ≤ 3 → 91 ≤ length image → feed_of (stream_of (run (fresh mode) steps)) image ≡ meaning mode steps image
 script mode steps image h l =
@@ -205,3 +210,6 @@ run_length mode steps h = from_new mode h (0 ∷ []) (omega arith) (λ (s : Prof
 
 pub run_bytes : (mode : ℕ) (steps : List Step) → mode ≤ 3 → length (run (fresh mode) steps).bytes ≡ 32
 run_bytes mode steps h = from_new mode h (0 ∷ []) (omega arith) (λ (s : ProfileSerializer) (x : Told). length s.bytes ≡ 32) (λ bs x r. r.room) steps
+
+pub run_all : (mode : ℕ) (steps : List Step) → mode ≤ 3 → AllBytes (run (fresh mode) steps).bytes
+run_all mode steps h = from_new mode h (0 ∷ []) (omega arith) (λ (s : ProfileSerializer) (x : Told). AllBytes s.bytes) (λ bs x r. r.bytes) steps

@@ -1,6 +1,9 @@
 pub mod Accepted
+pub mod Bytes
 pub mod Follows
 pub mod Stays
+pub mod Lands
 pub mod Runs
 pub mod Words
 pub mod Plays
+pub mod Sent

@@ -1,3 +1,4 @@
 pub mod Meaning
 pub mod Runs
 pub mod Play
+pub mod Sent

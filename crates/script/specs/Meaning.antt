@@ -78,3 +78,22 @@ Spared j (step ∷ steps) = T (not (touches step j)) × Spared j steps
 abbrev pub SparedBy : ℕ → ℕ → Told → List Step → Type 0
 SparedBy mode j x [] = Unit {0}
 SparedBy mode j x (step ∷ steps) = (answer_at mode x.length step ≡ Ok tt → T (not (touches step j))) × SparedBy mode j (tell mode x step) steps
+
+-- ---- the same exactly: a finalisation at a length, with the channels of a mask selected
+
+-- padding by the length modulo 4: LSRR of the selected channels at 1 and 3, CSR at 2 and 3
+abbrev pub padding_touches : ℕ → ℕ → ℕ → Bool
+padding_touches mask zero j = false
+padding_touches mask (suc zero) j = reaches 4 mask LSRR j
+padding_touches mask (suc (suc zero)) j = eqb j CSR
+padding_touches mask (suc (suc (suc k))) j = eqb j CSR || reaches 4 mask LSRR j
+
+unfoldable pub touches_at : ℕ → ℕ → Step → ℕ → Bool
+touches_at n mask (Push p) j = touches (Push p) j
+touches_at n mask (Finalize words) j = padding_touches mask (n % 4) j
+
+-- no accepted step touches word j, judged along the way with the channels that are selected then
+abbrev pub SparedAt : ℕ → ℕ → Told → List Step → Type 0
+SparedAt mode j x [] = Unit {0}
+SparedAt mode j x (step ∷ steps) =
+    (answer_at mode x.length step ≡ Ok tt → T (not (touches_at x.length (selected x.image) step j))) × SparedAt mode j (tell mode x step) steps
