@@ -1,5 +1,5 @@
 -- A step that is made of numbers, and a script that is lent as a slice of steps. Definitions only.
-use Rattle.std.specs.Prelude.{ℕ, ◌/◌, ◌%◌, ◌||◌, cond, List, ltb, eqb, ℤ, length, Option, Some, None, Result, Ok, Err}
+use Rattle.std.specs.Prelude.{ℕ, ◌/◌, ◌||◌, cond, List, ltb, eqb, ℤ, length, Result, Ok, Err}
 use Rattle.registers.specs.declared.refusal.Refusal.{Refusal}
 use Rattle.registers.specs.declared.refusal.Refusal.TheVariants.{Mode, Room}
 use Rattle.rules.specs.Rules.{given_by}
