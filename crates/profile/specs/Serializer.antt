@@ -7,6 +7,7 @@ use Rattle.registers.specs.Refusals.{answer_of}
 use Rattle.registers.specs.Registers.{Write}
 use Rattle.registers.specs.Bytes.{laid}
 use Rattle.stream.specs.Streams.{encode}
+use Rattle.stream.specs.Decoder.{decode_judged}
 use Rattle.image.specs.Feed.{feed_judged, feed_of}
 use Rattle.profile.specs.declared.ProfileSerializer.{ProfileSerializer}
 use Rattle.profile.specs.declared.Stepped.{Stepped}
@@ -63,6 +64,10 @@ finalize_of s words = record { answer = finalize_judged s.mode s.length words; s
 abbrev pub stream_of : ProfileSerializer → List ℕ
 stream_of s = take s.length s.bytes
 
+-- where there are so many: a length above 32 is Room
+abbrev pub meant_of : ProfileSerializer → Result (List ℕ) Refusal
+meant_of s = cond (ltb 32 s.length) (Err Room) (Ok (stream_of s))
+
 -- fed to an image: a length above 32 is Room; then as any stream
 abbrev pub feed_judged_of : ProfileSerializer → List ℕ → Result Unit Refusal
 feed_judged_of s image = cond (ltb 32 s.length) (Err Room) (feed_judged (stream_of s) image)
@@ -70,3 +75,7 @@ feed_judged_of s image = cond (ltb 32 s.length) (Err Room) (feed_judged (stream_
 -- the image after it
 abbrev pub fed_of : ProfileSerializer → List ℕ → List ℕ
 fed_of s image = cond (ltb 32 s.length) image (feed_of (stream_of s) image)
+
+-- decoded into buffers of m and n words: a length above 32 is Room; then as any stream
+abbrev pub decode_judged_of : ProfileSerializer → ℕ → ℕ → Result ℕ Refusal
+decode_judged_of s m n = cond (ltb 32 s.length) (Err Room) (decode_judged (stream_of s) m n)

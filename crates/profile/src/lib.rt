@@ -1,10 +1,11 @@
 // The profile serializer: register writes collected in 32 bytes, to be sent as words.
 #![tactic(auto)]
 
-ghost use Rattle.std.specs.Prelude.{◌≡◌, length, OnOk, OnErr};
+ghost use Rattle.std.specs.Prelude.{◌≡◌, length, Ok, Err, MatchResult, OnOk, OnErr};
 ghost use Rattle.rules.specs.Rules.{push_judged, finalize_judged};
 ghost use Rattle.registers.specs.Refusals.{answer_of};
-ghost use Rattle.profile.specs.Serializer.{new_of, pushed, push_of, padded, handed, finalize_of, feed_judged_of, fed_of};
+ghost use Rattle.stream.specs.Decoder.{writes_of, Filled};
+ghost use Rattle.profile.specs.Serializer.{new_of, pushed, push_of, padded, handed, finalize_of, stream_of, meant_of, feed_judged_of, fed_of, decode_judged_of};
 
 use registers::refusal::Refusal;
 pub use rules::{Push, bits, signed};
@@ -63,6 +64,13 @@ impl ProfileSerializer {
     {
         lent::finalize(self.mode, &mut self.length, &mut self.bytes, words)
     }
+
+    // The bytes below the length: more than there are is Room.
+    fn meant(&self) -> Result<&[u8], Refusal>
+        ensures { MatchResult result (λ x. meant_of self.now ≡ Ok x.now) (λ e. meant_of self.now ≡ Err e) }
+    {
+        self.bytes.get(..self.length).ok_or(Refusal::Room)
+    }
 }
 
 /// A push by value, a form that the project promises beside the method: the work is `lent`'s in both.
@@ -91,9 +99,19 @@ pub fn feed(serializer: ProfileSerializer, image: &mut [u32]) -> Result<(), Refu
     ensures fed { image.new ≡ fed_of serializer image.old }
     ensures kept { OnErr result (image.new ≡ image.old) }
 {
-    let bytes = serializer
-        .bytes
-        .get(..serializer.length)
-        .ok_or(Refusal::Room)?;
-    image::feed(bytes, image)
+    image::feed(serializer.meant()?, image)
+}
+
+/// Decodes the profile's bytes into two buffers, as `stream::decode` does a stream: how many writes there are.
+pub fn decode(
+    serializer: ProfileSerializer,
+    addresses: &mut [u32],
+    values: &mut [u32],
+) -> Result<usize, Refusal>
+    ensures judged { result ≡ decode_judged_of serializer (length addresses.old) (length values.old) }
+    ensures taken { OnOk result (Filled (writes_of (stream_of serializer)) addresses.old values.old addresses.new values.new) }
+    ensures addresses_kept { OnErr result (addresses.new ≡ addresses.old) }
+    ensures values_kept { OnErr result (values.new ≡ values.old) }
+{
+    stream::decode(serializer.meant()?, addresses, values)
 }

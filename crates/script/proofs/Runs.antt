@@ -1,25 +1,30 @@
 -- A run of the code is a run of the definitions.
---     calls_run    calls that did what their contracts say end at the record that the steps' run gives
---     fed          what `profile::feed` gives and leaves, on the serializer that a run reaches
---     made         what `ProfileSerializer::new` gave
---     code_means   so what `new`, calls of `push` and `finalize` and then `feed` leave in an image is the steps' meaning, and feeding is not refused
+--     calls_run        calls that did what their contracts say end at the record that the steps' run gives
+--     fed              what `profile::feed` gives and leaves, on the serializer that a run reaches
+--     decodes_record   the record decodes into buffers of 32 words or more: the answer is how many writes it has
+--     made             what `ProfileSerializer::new` gave
+--     code_means       so what `new`, calls of `push` and `finalize` and then `feed` leave in an image is the steps' meaning, and feeding is not refused
 use mathlib.Core.Path.{◌≡◌, refl, ap, ◌∙◌}
 use mathlib.Core.List.{List}
 use Prim.Native.Nat.{ℕ, ◌≤◌}
 use borrow.Author.Tests.{le-ltb, ltb-false}
 use lib.Dec.{ltb}
+use native.Mathlib.Omega.{arith}
 use lib.ListN.{length}
+use lib.Seq.{length-take-le}
 use mathlib.Core.Bool.{Bool, true, false, cond}
 use Rattle.std.specs.Prelude.{Result, Ok, Err}
 use Rattle.registers.specs.declared.refusal.Refusal.{Refusal}
 use Rattle.registers.specs.declared.refusal.Refusal.TheVariants.{Mode}
 use Rattle.profile.specs.declared.ProfileSerializer.{ProfileSerializer}
 use Rattle.profile.specs.declared.Stepped.{Stepped}
-use Rattle.profile.specs.Serializer.{fresh, new_of, feed_judged_of, fed_of}
+use Rattle.stream.specs.Decoder.{writes_of, items_of, count_of}
+use Rattle.stream.proofs.Steps.{items_most, taken_all, counted}
+use Rattle.profile.specs.Serializer.{fresh, new_of, stream_of, feed_judged_of, fed_of, decode_judged_of}
 use Rattle.script.specs.declared.Step.{Step}
 use Rattle.script.specs.Meaning.{meaning}
 use Rattle.script.specs.Runs.{step_of, run, Calls, none, pushed, finalized}
-use Rattle.script.proofs.Follows.{script, decodes, run_length}
+use Rattle.script.proofs.Follows.{script, decodes, run_length, run_bytes}
 
 pub calls_run : {steps : List Step} {s e : ProfileSerializer} → Calls steps s e → e ≡ run s steps
 unfolding step_of
@@ -33,6 +38,17 @@ fed mode steps image h l =
     let e = le-ltb 32 (run (fresh mode) steps).length (run_length mode steps h) in
     let d = decodes mode steps h in
     (rw (e, le-ltb (length image) 91 l, d.1), rw e (script mode steps image h l))
+
+pub decodes_record : (mode : ℕ) (steps : List Step) (m n : ℕ) → mode ≤ 3 → 32 ≤ m → 32 ≤ n
+    → decode_judged_of (run (fresh mode) steps) m n ≡ Ok (length (writes_of (stream_of (run (fresh mode) steps))))
+decodes_record mode steps m n h j k =
+    let s = run (fresh mode) steps in
+    let l = run_length mode steps h in
+    let d = decodes mode steps h in
+    let c : length (items_of (stream_of s)) ≡ length d.0 = counted (items_of (stream_of s)) (length d.0) (ap count_of d.1) in
+    let b : length (items_of (stream_of s)) ≤ length (stream_of s) = items_most (stream_of s) in
+    let w = length-take-le s.length s.bytes (rw (run_bytes mode steps h) l) in
+    rw (le-ltb 32 s.length l, d.1, taken_all (items_of (stream_of s)) d.0 d.1, le-ltb m (length d.0) (omega arith), le-ltb n (length d.0) (omega arith))
 
 -- a new serializer is made in a mode of at most 3 alone, and is empty
 pub made : (mode : ℕ) (s : ProfileSerializer) → new_of mode ≡ Ok s → (mode ≤ 3) × (s ≡ fresh mode)
