@@ -1,5 +1,5 @@
 -- The C boundary: what stands for a value that is not there. Definitions only.
-use Rattle.std.specs.Prelude.{ℕ, ◌/◌, ◌%◌, cond, ltb, eqb, ℤ, Option, Some, None}
+use Rattle.std.specs.Prelude.{ℕ, ◌/◌, cond, ltb, ℤ, Some, None}
 use Rattle.binary32.specs.Floats.{whole}
 use Rattle.convert.specs.declared.Setting.{Setting}
 use Rattle.convert.specs.declared.clock.Clock.{Clock}
