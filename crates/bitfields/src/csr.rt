@@ -1,6 +1,8 @@
 // CSR, the channel select register.
 // Mode and mask are tested in a line wherever they are refused, here and in the crates above: a function for it would say no more.
 ghost use Rattle.std.specs.Prelude.{◌≡◌};
+ghost use Rattle.registers.specs.Registers.{CSR};
+ghost use Rattle.registers.specs.Fields.{raw_in};
 ghost use Rattle.bitfields.specs.Csr.{csr_of, with_mode, with_channel};
 
 use registers::bits;
@@ -15,6 +17,13 @@ pub const LSB_FIRST: Field = bits!(0, 0);
 pub const MODE: Field = bits!(1, 2);
 
 pub const CHANNEL: Field = bits!(4, 7);
+
+/// A CSR of a raw value, under the Rust's name: Word where it has more than 8 bits.
+pub fn new_with_raw_value(raw: u32) -> Result<Csr, Refusal>
+    ensures { result ≡ raw_in CSR raw }
+{
+    Csr::try_from(raw)
+}
 
 // A CSR in another mode: Mode, then Word.
 #[tactic(auto, unfolding(registers::specs::Registers::width_of))]

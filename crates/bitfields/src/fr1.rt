@@ -1,5 +1,7 @@
 // FR1, function register 1.
 ghost use Rattle.std.specs.Prelude.{◌≡◌};
+ghost use Rattle.registers.specs.Registers.{FR1};
+ghost use Rattle.registers.specs.Fields.{raw_in};
 ghost use Rattle.bitfields.specs.Fr1.{with_clock};
 
 use registers::bits;
@@ -33,6 +35,13 @@ pub const CHARGE_PUMP: Field = bits!(16, 17);
 pub const PLL_DIVIER: Field = bits!(18, 22);
 
 pub const VCO_HIGH: Field = bits!(23, 23);
+
+/// An FR1 of a raw value, under the Rust's name: Word where it has more than 24 bits.
+pub fn new_with_raw_value(raw: u32) -> Result<Fr1, Refusal>
+    ensures { result ≡ raw_in FR1 raw }
+{
+    Fr1::try_from(raw)
+}
 
 // FR1 with a multiplier and vco_high: every other bit stays.
 #[tactic(auto, unfolding(registers::specs::Registers::width_of))]

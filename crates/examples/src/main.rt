@@ -17,14 +17,14 @@ fn bare(mask: u32) -> Push {
     }
 }
 
-fn single(rt: &HostRuntime, head: &str, mode: u32, push: Push) -> io::Result<()> {
+fn single(rt: &impl Print, head: &str, mode: u32, push: Push) -> io::Result<()> {
     let mut serializer = step::begin(rt, head, mode)?;
     step::push(rt, &mut serializer, push)?;
     step::finalize(rt, &mut serializer)
 }
 
 // Lengths 14, 24, then 31; and the other ending, from the profile of before the third push.
-fn six(rt: &HostRuntime) -> io::Result<()> {
+fn six(rt: &impl Print) -> io::Result<()> {
     let mut serializer = step::begin(rt, " 6  ", 3)?;
     let first = Push {
         word: Some(0x1111_1111),
@@ -51,7 +51,7 @@ fn six(rt: &HostRuntime) -> io::Result<()> {
     step::finalize(rt, &mut other)
 }
 
-fn profiles(rt: &HostRuntime) -> io::Result<()> {
+fn profiles(rt: &impl Print) -> io::Result<()> {
     let word = Some(0x0102_0304);
     single(rt, " 1  ", 3, Push { word, ..bare(1) })?;
     single(rt, " 2  ", 0, bare(0))?;
@@ -65,7 +65,7 @@ fn profiles(rt: &HostRuntime) -> io::Result<()> {
     single(rt, " 7  ", 3, Push { word, ..bare(1) })
 }
 
-fn values(rt: &HostRuntime) -> io::Result<()> {
+fn values(rt: &impl Print) -> io::Result<()> {
     value::phase(rt, " 8  ", 0.25)?;
     value::phase(rt, "    ", 3.75)?;
     value::phase(rt, "    ", 1.0)?;

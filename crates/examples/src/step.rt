@@ -1,11 +1,16 @@
 // A line for each step of a profile: what was asked, the answer, and the length.
+use arrayvec::ArrayString;
 use profile::{ProfileSerializer, Push};
 use registers::refusal::{self, Refusal};
+use std::fmt::Write;
 use std::io;
+
+// What was asked, as text. Of a fixed size, and longer than any example: with no heap the program can't run out of memory.
+pub type Asked = ArrayString<72>;
 
 // What was asked, in 54 columns, and the answer; a refusal too has a length, the one that stays.
 fn line<T>(
-    rt: &HostRuntime,
+    rt: &impl Print,
     asked: &str,
     answer: &Result<T, Refusal>,
     length: usize,
@@ -16,15 +21,17 @@ fn line<T>(
 }
 
 /// A serializer for a mode, with its example's number in front.
-pub fn begin(rt: &HostRuntime, head: &str, mode: u32) -> io::Result<ProfileSerializer> {
+pub fn begin(rt: &impl Print, head: &str, mode: u32) -> io::Result<ProfileSerializer> {
     let new = ProfileSerializer::new(mode);
-    let asked = format!(in rt.alloc(); "{head}mode {mode}")?;
+    let mut asked = Asked::new();
+    write!(asked, "{head}mode {mode}")?;
     line(rt, asked.as_str(), &new, 0)?;
     new.map_err(|_| io::Error::from(io::ErrorKind::InvalidInput))
 }
 
-fn asked(rt: &HostRuntime, push: Push) -> io::Result<String> {
-    let mut asked = format!(in rt.alloc(); "    push {}", push.mask)?;
+fn asked(push: Push) -> io::Result<Asked> {
+    let mut asked = Asked::new();
+    write!(asked, "    push {}", push.mask)?;
     match push.word {
         Some(word) if word < 0 => write!(asked, " word {word}")?,
         Some(word) => write!(asked, " word 0x{word:08X}")?,
@@ -39,13 +46,13 @@ fn asked(rt: &HostRuntime, push: Push) -> io::Result<String> {
     Ok(asked)
 }
 
-pub fn push(rt: &HostRuntime, serializer: &mut ProfileSerializer, push: Push) -> io::Result<()> {
+pub fn push(rt: &impl Print, serializer: &mut ProfileSerializer, push: Push) -> io::Result<()> {
     let answer = serializer.push(push);
-    line(rt, asked(rt, push)?.as_str(), &answer, serializer.length)
+    line(rt, asked(push)?.as_str(), &answer, serializer.length)
 }
 
 /// A profile is padded and handed out: its bytes and words.
-pub fn finalize(rt: &HostRuntime, serializer: &mut ProfileSerializer) -> io::Result<()> {
+pub fn finalize(rt: &impl Print, serializer: &mut ProfileSerializer) -> io::Result<()> {
     // `finalize` fills what it is lent, and no profile takes more than eight words.
     let mut words = [0u32; 8];
     let answer = serializer.finalize(&mut words);

@@ -1,11 +1,13 @@
 // Examples 8 to 11: a line for each value, with what was asked, the answer, the register and what it achieves.
+use crate::step::Asked;
 use bitfields::fr1;
 use convert::{Driver, Setting, clock};
 use registers::refusal::{self, Refusal};
+use std::fmt::Write;
 use std::io;
 
 // What was asked, in 30 columns, and the answer.
-fn answered<T>(rt: &HostRuntime, asked: &str, answer: &Result<T, Refusal>) -> io::Result<()> {
+fn answered<T>(rt: &impl Print, asked: &str, answer: &Result<T, Refusal>) -> io::Result<()> {
     let number = refusal::number(answer);
     let name = refusal::name(answer);
     print!(rt; "{asked:<30}{number} {name:<6}")
@@ -13,7 +15,7 @@ fn answered<T>(rt: &HostRuntime, asked: &str, answer: &Result<T, Refusal>) -> io
 
 // The rest of a line; a refusal has no register. An f64 is shown in as many places as these floats have.
 fn setting(
-    rt: &HostRuntime,
+    rt: &impl Print,
     asked: &str,
     setting: Result<Setting, Refusal>,
     register: &str,
@@ -30,18 +32,21 @@ fn setting(
     println!(rt)
 }
 
-pub fn phase(rt: &HostRuntime, head: &str, x: f32) -> io::Result<()> {
-    let asked = format!(in rt.alloc(); "{head}phase {}", f64::from(x))?;
+pub fn phase(rt: &impl Print, head: &str, x: f32) -> io::Result<()> {
+    let mut asked = Asked::new();
+    write!(asked, "{head}phase {}", f64::from(x))?;
     setting(rt, asked.as_str(), Ok(convert::phase::set(x)), "CPOW0", 4)
 }
 
-pub fn amplitude(rt: &HostRuntime, head: &str, x: f32) -> io::Result<()> {
-    let asked = format!(in rt.alloc(); "{head}amplitude {}", f64::from(x))?;
+pub fn amplitude(rt: &impl Print, head: &str, x: f32) -> io::Result<()> {
+    let mut asked = Asked::new();
+    write!(asked, "{head}amplitude {}", f64::from(x))?;
     setting(rt, asked.as_str(), convert::amplitude::set(x), "ACR", 6)
 }
 
-fn frequency(rt: &HostRuntime, driver: Driver, x: f32) -> io::Result<()> {
-    let asked = format!(in rt.alloc(); "    frequency {}", f64::from(x))?;
+fn frequency(rt: &impl Print, driver: Driver, x: f32) -> io::Result<()> {
+    let mut asked = Asked::new();
+    write!(asked, "    frequency {}", f64::from(x))?;
     setting(
         rt,
         asked.as_str(),
@@ -51,13 +56,15 @@ fn frequency(rt: &HostRuntime, driver: Driver, x: f32) -> io::Result<()> {
     )
 }
 
-fn reference(rt: &HostRuntime, head: &str, x: f32, multiplier: u32) -> io::Result<String> {
-    Ok(format!(in rt.alloc(); "{head}reference {} x {multiplier}", f64::from(x))?)
+fn reference(head: &str, x: f32, multiplier: u32) -> io::Result<Asked> {
+    let mut asked = Asked::new();
+    write!(asked, "{head}reference {} x {multiplier}", f64::from(x))?;
+    Ok(asked)
 }
 
 /// FR1 for a clock, which is judged first.
-pub fn clock(rt: &HostRuntime, was: u32, x: f32, multiplier: u32) -> io::Result<()> {
-    let asked = reference(rt, "    ", x, multiplier)?;
+pub fn clock(rt: &impl Print, was: u32, x: f32, multiplier: u32) -> io::Result<()> {
+    let asked = reference("    ", x, multiplier)?;
     let fr1 = clock::of(x, multiplier).and_then(|clock| fr1::with_clock(
         was, multiplier, clock.vco,
     ));
@@ -69,8 +76,8 @@ pub fn clock(rt: &HostRuntime, was: u32, x: f32, multiplier: u32) -> io::Result<
 }
 
 /// A clock's ratio, and frequencies on a driver that has it.
-pub fn driver(rt: &HostRuntime, head: &str, x: f32, multiplier: u32) -> io::Result<()> {
-    let asked = reference(rt, head, x, multiplier)?;
+pub fn driver(rt: &impl Print, head: &str, x: f32, multiplier: u32) -> io::Result<()> {
+    let asked = reference(head, x, multiplier)?;
     let clock = clock::of(x, multiplier);
     answered(rt, asked.as_str(), &clock)?;
     let Ok(clock) = clock else {

@@ -1,5 +1,7 @@
 -- What the trait asks of the four as one: each follows its table.
+--     moves_on    past its table too: any record but one of the largest step moves on by one, and its whole table stays
 use Rattle.std.specs.Prelude.{◌≡◌, ℕ, ◌+◌, ◌<◌, ◌≤◌, false, List, ◌∷◌, length, slice_get, Option, Some, None, Result, Ok, Err, refl}
+use Rattle.std.proofs.Common.{arith}
 use Rattle.registers.specs.declared.refusal.Refusal.{Refusal}
 use Rattle.bus.specs.Sequence.{Follows, ends, stops}
 use Rattle.startup.specs.Laws as startup-laws
@@ -34,12 +36,19 @@ here (Transfer s) vs = channel-laws.follows.here s vs
 here (Register s) vs = register-laws.follows.here s vs
 here (SelfTest s) vs = self-test-laws.follows.here s vs
 
-moves : (k : Kind) (v : ℕ) (vs : List ℕ) → plan.step k < length (plan.table k) → stops plan k v ≡ false
+-- far fewer steps than a step can count
+short : (k : Kind) → length (plan.table k) < 4294967295
+short (Startup s) = omega arith
+short (Transfer s) = omega arith
+short (Register s) = omega arith
+short (SelfTest s) = omega arith
+
+pub moves_on : (k : Kind) (v : ℕ) (vs : List ℕ) → plan.step k < 4294967295 → stops plan k v ≡ false
     → (plan.step (plan.onward k v) ≡ plan.step k + 1) × (table_of (plan.onward k v) vs ≡ table_of k (v ∷ vs))
-moves (Startup s) v vs h e = startup-laws.follows.moves s v vs h (ends_brings Driver (startup.plan.judge s v) e)
-moves (Transfer s) v vs h e = channel-laws.follows.moves s v vs h (ends_brings Float (channel.plan.judge s v) e)
-moves (Register s) v vs h e = register-laws.follows.moves s v vs h (ends_brings Word (register.plan.judge s v) e)
-moves (SelfTest s) v vs h e = self-test-laws.follows.moves s v vs h (ends_brings Passed (self-test.plan.judge s v) e)
+moves_on (Startup s) v vs h e = startup-laws.moves_on s v vs h (ends_brings Driver (startup.plan.judge s v) e)
+moves_on (Transfer s) v vs h e = channel-laws.moves_on s v vs h (ends_brings Float (channel.plan.judge s v) e)
+moves_on (Register s) v vs h e = register-laws.moves_on s v vs h (ends_brings Word (register.plan.judge s v) e)
+moves_on (SelfTest s) v vs h e = self-test-laws.moves_on s v vs h (ends_brings Passed (self-test.plan.judge s v) e)
 
 over : (k : Kind) → length (plan.table (plan.ended k)) ≤ plan.step (plan.ended k)
 over (Startup s) = startup-laws.follows.over s
@@ -48,4 +57,4 @@ over (Register s) = register-laws.follows.over s
 over (SelfTest s) = self-test-laws.follows.over s
 
 pub follows : Follows plan table_of
-follows = record { long = long; here = here; moves = moves; over = over }
+follows = record { long = long; here = here; moves = λ k v vs h e. moves_on k v vs (omega (arith, h, short k)) e; over = over }

@@ -1,5 +1,5 @@
 -- Numbers byte by byte.
---     digit_same, digit_none   std's digit, and another byte
+--     digit_is               a byte's digit is std's, and 16 where std has none
 --     scan_next, scan_stop   a digit, and another byte
 use Rattle.std.proofs.Common.{ℕ, suc, ◌+◌, ◌-◌, ◌*◌, ◌^◌, ◌<◌, ◌≤◌, ◌≡◌, refl, ap, Bool, true, false, cond, List, [], ◌∷◌, length, get_or, drop, arith}
 use Rattle.std.proofs.Common.{Ok, Err, min}

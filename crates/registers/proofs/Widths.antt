@@ -1,5 +1,6 @@
 -- The widths.
---     table_width     an entry of the code's table is the data sheet's, and is 1 to 4
+--     table_width     an entry of a table that passes the test is the data sheet's, and is 1 to 4
+--     code_width      an entry of the code's table is the data sheet's, and is 1 to 4
 --     width_range     a register has one to four bytes
 --     width_most      no address has more than four
 --     largest_holds   a value is at most the largest exactly if the register holds it
@@ -16,6 +17,7 @@ use lib.ListN.{length, get_or, get_or-eq_default}
 use lib.Pow.{pow-add, pow_pos}
 use borrow.Author.Tests.{le-leb, lt-leb, lt-ltb, le-ltb}
 use Rattle.registers.specs.Registers.{widths, width_of}
+use Rattle.registers.specs.declared.address.TheConstants as code
 use Rattle.registers.proofs.Table.{every, at, left, right}
 
 -- the rule that is tested over the whole table
@@ -33,6 +35,9 @@ parts a w t =
 pub table_width : (t : List ℕ) → T (every rule 0 t) → (a : ℕ) → a < length t → (get_or t a 0 ≡ width_of a) × (1 ≤ get_or t a 0) × (get_or t a 0 ≤ 4)
 unfolding width_of
 table_width t passes a h = parts a (get_or t a 0) (at rule t passes a h)
+
+pub code_width : (a : ℕ) → a < 25 → (get_or code.WIDTHS a 0 ≡ width_of a) × (1 ≤ get_or code.WIDTHS a 0) × (get_or code.WIDTHS a 0 ≤ 4)
+code_width a h = table_width code.WIDTHS tt a h
 
 pub width_range : (a : ℕ) → a < 25 → (1 ≤ width_of a) × (width_of a ≤ 4)
 unfolding width_of

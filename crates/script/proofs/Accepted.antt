@@ -1,7 +1,5 @@
 -- An answer that is Ok.
 --     accepted_is       it carries nothing
---     push_accepted     of a push's the rules gave the length behind it
---     finalize_accepted of a finalisation's, how many words it takes
 use Rattle.std.proofs.Common.{◌≡◌, refl, Bool, true, false, Result, Ok, Err}
 use Rattle.std.specs.Prelude.{is_ok}
 

@@ -1,9 +1,10 @@
 -- What the trait asks of the self test: it follows its table.
-use Rattle.std.specs.Prelude.{◌≡◌, ℕ, zero, suc, ◌+◌, Bool, cond, List, length, eqb, get_or, slice_get, refl}
+--     moves_on    past its table too: any record but one of the largest step moves on by one, and its whole table stays
+use Rattle.std.specs.Prelude.{◌≡◌, ℕ, zero, suc, ◌+◌, ◌<◌, Bool, false, cond, List, ◌∷◌, length, eqb, get_or, slice_get, refl}
 use Rattle.std.proofs.Common.{ap, arith}
 use borrow.Author.Tests.{ne_eqb}
 use lib.Dec.{eqb-suc-zero}
-use Rattle.bus.specs.Sequence.{Follows}
+use Rattle.bus.specs.Sequence.{Follows, stops}
 use Rattle.bus.proofs.Runs.{next_is}
 use Rattle.self_test.specs.declared.SelfTest.{SelfTest}
 use Rattle.self_test.specs.SelfTest.{table, plan, table_of}
@@ -17,10 +18,14 @@ first_same (suc k) old vs = ap (λ (b : Bool). slice_get (table (cond b (get_or 
 pub many : (s : SelfTest) → length (plan.table s) ≡ 6
 many s = refl
 
+pub moves_on : (s : SelfTest) (v : ℕ) (vs : List ℕ) → s.step < 4294967295 → stops plan s v ≡ false
+    → (plan.step (plan.onward s v) ≡ plan.step s + 1) × (table_of (plan.onward s v) vs ≡ table_of s (v ∷ vs))
+moves_on s v vs h e = let k = next_is s.step 4294967295 h (omega arith) in (k, rw (k, ne_eqb (s.step + 1) 0 (λ z. omega arith)))
+
 pub follows : Follows plan table_of
 follows = record {
   long = λ s vs. refl;
   here = λ s vs. first_same s.step s.old vs;
-  moves = λ s v vs h e. let k = next_is s.step 6 h (omega arith) in (k, rw (k, ne_eqb (s.step + 1) 0 (λ z. omega arith)));
+  moves = λ s v vs h e. moves_on s v vs (omega (arith, h)) e;
   over = λ s. omega arith;
 }

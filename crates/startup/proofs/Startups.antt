@@ -256,7 +256,7 @@ module _ (mode : ℕ) (reference : Float) (multiplier : ℕ) (rs : List Reply) (
       let late = ltb t.step 12 || is_ok (clock t) in
       let p = (and-eq-true_iff (leb t.mode 3 && holds FR1 t.fr1) late).0 (runs.within plan t some).0 in
       let o = (and-eq-true_iff (leb t.mode 3) (holds FR1 t.fr1)).0 p.0 in
-      let read : t.fr1 ≡ get_or (values rs) 12 0 = ap (λ (k : ℕ). fr1_to k [] t.fr1) (sym ended_well.0) ∙ carried plan table_of follows (λ s vs. fr1_to s.step vs s.fr1) (λ s v vs h _. fr1_next s.step v s.fr1 vs h) s rs some in
+      let read : t.fr1 ≡ get_or (values rs) 12 0 = ap (λ (k : ℕ). fr1_to k [] t.fr1) (sym ended_well.0) ∙ carried plan table_of follows (λ s vs. fr1_to s.step vs s.fr1) (λ s v vs h e. fr1_next s.step (plan.step (plan.onward s v)) v s.fr1 vs (follows.moves s v vs h e).0) s rs some in
       (rw (← same (λ s. s.mode) (λ s v. refl)) (leb-true t.mode 3 o.0), rw (← read) o.1)
 
   pub on_chip : (more : List Reply) (image : List ℕ) → apply (writes (acts plan s (rs ++ r ∷ more))) image

@@ -1,5 +1,6 @@
 -- What the trait asks of start-up: it follows its table.
-use Rattle.std.specs.Prelude.{◌≡◌, ℕ, suc, ◌+◌, ◌-◌, ◌<◌, List, ◌∷◌, length, get_or, slice_get, Some, take, drop, ltb, refl}
+--     moves_on    past its table too: any record but one of the largest step moves on by one, and its whole table stays
+use Rattle.std.specs.Prelude.{◌≡◌, ℕ, suc, ◌+◌, ◌-◌, ◌<◌, false, List, ◌∷◌, length, get_or, slice_get, Some, take, drop, ltb, refl}
 use Rattle.std.proofs.Common.{sym, ap, ◌∙◌, arith}
 use borrow.Author.Tests.{ltb-true, ltb-false, lt-ltb, le-ltb, eq-eqb, ne_eqb}
 use lib.ListN.{get_or-append}
@@ -7,8 +8,7 @@ use Rattle.registers.proofs.Choice.{by}
 use Rattle.bus.specs.declared.Action.{Action}
 use Rattle.bus.specs.declared.Action.TheVariants.{Delay}
 use Rattle.std.proofs.lemmas.Option.{slice_get-get_or}
-use Rattle.bus.specs.Sequence.{Follows, next}
-use Rattle.bus.proofs.Runs.{next_is}
+use Rattle.bus.specs.Sequence.{Follows, stops}
 use Rattle.startup.specs.declared.Startup.{Startup}
 use Rattle.startup.specs.Startup.{table, csr, word, kept_of, plan, fr1_to, table_of}
 
@@ -33,18 +33,28 @@ fr1_then k v fr1 vs =
     (λ f. let i = ltb-true k 13 f in let z : 12 - k ≡ 0 = omega arith in simp (le-ltb (k + 1) 13 (omega arith), lt-ltb k 13 i, eq-eqb k 12 (omega arith), z))
     (λ f. let i = ltb-false k 13 f in simp (le-ltb (k + 1) 13 (omega arith), le-ltb k 13 i, ne_eqb k 12 (λ w. omega arith))))
 
-pub fr1_next : (k v fr1 : ℕ) (vs : List ℕ) → k < 17 → fr1_to (next k) vs (kept_of k v fr1) ≡ fr1_to k (v ∷ vs) fr1
-fr1_next k v fr1 vs h = rw (next_is k 17 h (omega arith)) (fr1_then k v fr1 vs)
+-- n is the step after k
+pub fr1_next : (k n v fr1 : ℕ) (vs : List ℕ) → n ≡ k + 1 → fr1_to n vs (kept_of k v fr1) ≡ fr1_to k (v ∷ vs) fr1
+fr1_next k n v fr1 vs e = rw e (fr1_then k v fr1 vs)
 
 -- 17 steps, of any record
 pub many : (s : Startup) → length (plan.table s) ≡ 17
 many s = refl
 
-pub follows : Follows plan table_of
+-- one that moves on by one keeps its whole table
+keeps : (s : Startup) (v : ℕ) (vs : List ℕ) → plan.step (plan.onward s v) ≡ s.step + 1 → table_of (plan.onward s v) vs ≡ table_of s (v ∷ vs)
 unfolding word
+keeps s v vs k = ap (λ (x : ℕ). table s.mode (csr s) (word s x)) (fr1_next s.step (plan.step (plan.onward s v)) v s.fr1 vs k)
+
+-- `follows` stands without it: a plan that goes wrong past its table alone is refused here alone
+pub moves_on : (s : Startup) (v : ℕ) (vs : List ℕ) → s.step < 4294967295 → stops plan s v ≡ false
+    → (plan.step (plan.onward s v) ≡ plan.step s + 1) × (table_of (plan.onward s v) vs ≡ table_of s (v ∷ vs))
+moves_on s v vs h e = let k : plan.step (plan.onward s v) ≡ s.step + 1 = omega (arith, h) in (k, keeps s v vs k)
+
+pub follows : Follows plan table_of
 follows = record {
   long = λ s vs. refl;
   here = fr1_here;
-  moves = λ s v vs h e. (next_is s.step 17 h (omega arith), ap (λ (x : ℕ). table s.mode (csr s) (word s x)) (fr1_next s.step v s.fr1 vs h));
+  moves = λ s v vs h e. let k : plan.step (plan.onward s v) ≡ s.step + 1 = omega (arith, h) in (k, keeps s v vs k);
   over = λ s. omega arith;
 }
