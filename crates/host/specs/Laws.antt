@@ -1,5 +1,6 @@
 -- What the trait asks of the four as one: each follows its table.
---     moves_on    past its table too: any record but one of the largest step moves on by one, and its whole table stays
+--     table_stays a record that moves on keeps its whole table, whatever its step
+--     moves_on    past its table too: any record but one of the largest step moves on by one, with that table
 use Rattle.std.specs.Prelude.{◌≡◌, ℕ, ◌+◌, ◌<◌, ◌≤◌, false, List, ◌∷◌, length, slice_get, Option, Some, None, Result, Ok, Err, refl}
 use Rattle.std.proofs.Common.{arith}
 use Rattle.registers.specs.declared.refusal.Refusal.{Refusal}
@@ -42,6 +43,12 @@ short (Startup s) = omega arith
 short (Transfer s) = omega arith
 short (Register s) = omega arith
 short (SelfTest s) = omega arith
+
+pub table_stays : (k : Kind) (v : ℕ) (vs : List ℕ) → table_of (plan.onward k v) vs ≡ table_of k (v ∷ vs)
+table_stays (Startup s) v vs = startup-laws.table_stays s v vs
+table_stays (Transfer s) v vs = channel-laws.table_stays s v
+table_stays (Register s) v vs = register-laws.table_stays s v
+table_stays (SelfTest s) v vs = self-test-laws.table_stays s v vs
 
 pub moves_on : (k : Kind) (v : ℕ) (vs : List ℕ) → plan.step k < 4294967295 → stops plan k v ≡ false
     → (plan.step (plan.onward k v) ≡ plan.step k + 1) × (table_of (plan.onward k v) vs ≡ table_of k (v ∷ vs))

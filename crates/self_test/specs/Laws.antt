@@ -1,6 +1,7 @@
 -- What the trait asks of the self test: it follows its table.
---     moves_on    past its table too: any record but one of the largest step moves on by one, and its whole table stays
-use Rattle.std.specs.Prelude.{◌≡◌, ℕ, zero, suc, ◌+◌, ◌<◌, Bool, false, cond, List, ◌∷◌, length, eqb, get_or, slice_get, refl}
+--     table_stays a record that moves on keeps its whole table, whatever its step
+--     moves_on    past its table too: any record but one of the largest step moves on by one, with that table
+use Rattle.std.specs.Prelude.{◌≡◌, ℕ, zero, suc, ◌+◌, ◌<◌, Bool, false, cond, List, ◌∷◌, length, eqb, get_or, slice_get, min, refl}
 use Rattle.std.proofs.Common.{ap, arith}
 use borrow.Author.Tests.{ne_eqb}
 use lib.Dec.{eqb-suc-zero}
@@ -18,9 +19,12 @@ first_same (suc k) old vs = ap (λ (b : Bool). slice_get (table (cond b (get_or 
 pub many : (s : SelfTest) → length (plan.table s) ≡ 6
 many s = refl
 
+pub table_stays : (s : SelfTest) (v : ℕ) (vs : List ℕ) → table_of (plan.onward s v) vs ≡ table_of s (v ∷ vs)
+table_stays s v vs = rw (ne_eqb (min (s.step + 1) 4294967295) 0 (λ z. omega (arith, z))) refl
+
 pub moves_on : (s : SelfTest) (v : ℕ) (vs : List ℕ) → s.step < 4294967295 → stops plan s v ≡ false
     → (plan.step (plan.onward s v) ≡ plan.step s + 1) × (table_of (plan.onward s v) vs ≡ table_of s (v ∷ vs))
-moves_on s v vs h e = let k = next_is s.step 4294967295 h (omega arith) in (k, rw (k, ne_eqb (s.step + 1) 0 (λ z. omega arith)))
+moves_on s v vs h e = (next_is s.step 4294967295 h (omega arith), table_stays s v vs)
 
 pub follows : Follows plan table_of
 follows = record {

@@ -1,6 +1,7 @@
 -- What the trait asks of start-up: it follows its table.
---     moves_on    past its table too: any record but one of the largest step moves on by one, and its whole table stays
-use Rattle.std.specs.Prelude.{◌≡◌, ℕ, suc, ◌+◌, ◌-◌, ◌<◌, false, List, ◌∷◌, length, get_or, slice_get, Some, take, drop, ltb, refl}
+--     table_stays a record that moves on keeps its whole table, whatever its step
+--     moves_on    past its table too: any record but one of the largest step moves on by one, with that table
+use Rattle.std.specs.Prelude.{◌≡◌, ℕ, suc, ◌+◌, ◌-◌, ◌<◌, ◌≤◌, false, List, ◌∷◌, length, get_or, slice_get, Some, take, drop, ltb, refl}
 use Rattle.std.proofs.Common.{sym, ap, ◌∙◌, arith}
 use borrow.Author.Tests.{ltb-true, ltb-false, lt-ltb, le-ltb, eq-eqb, ne_eqb}
 use lib.ListN.{get_or-append}
@@ -46,15 +47,26 @@ keeps : (s : Startup) (v : ℕ) (vs : List ℕ) → plan.step (plan.onward s v) 
 unfolding word
 keeps s v vs k = ap (λ (x : ℕ). table s.mode (csr s) (word s x)) (fr1_next s.step (plan.step (plan.onward s v)) v s.fr1 vs k)
 
--- `follows` stands without it: a plan that goes wrong past its table alone is refused here alone
+fr1_late : (k n v fr1 : ℕ) (vs : List ℕ) → 13 ≤ k → 13 ≤ n → fr1_to n vs (kept_of k v fr1) ≡ fr1_to k (v ∷ vs) fr1
+fr1_late k n v fr1 vs h l = simp (le-ltb n 13 l, le-ltb k 13 h, ne_eqb k 12 (λ w. omega (arith, h, w)))
+
+pub table_stays : (s : Startup) (v : ℕ) (vs : List ℕ) → table_of (plan.onward s v) vs ≡ table_of s (v ∷ vs)
+unfolding word
+table_stays s v vs =
+    let G : ℕ → Type 0 = λ t. table_of (plan.onward s v) vs ≡ table_of s (v ∷ vs) in
+    by G (ltb s.step 13) {x = 0} {y = 0}
+    (λ e. let h = ltb-true s.step 13 e in keeps s v vs (omega (arith, h)))
+    (λ e. let h = ltb-false s.step 13 e in ap (λ (x : ℕ). table s.mode (csr s) (word s x)) (fr1_late s.step (plan.step (plan.onward s v)) v s.fr1 vs h (omega (arith, h))))
+
+-- a plan that goes wrong only past its table still `follows` it: `moves_on` alone refuses it
 pub moves_on : (s : Startup) (v : ℕ) (vs : List ℕ) → s.step < 4294967295 → stops plan s v ≡ false
     → (plan.step (plan.onward s v) ≡ plan.step s + 1) × (table_of (plan.onward s v) vs ≡ table_of s (v ∷ vs))
-moves_on s v vs h e = let k : plan.step (plan.onward s v) ≡ s.step + 1 = omega (arith, h) in (k, keeps s v vs k)
+moves_on s v vs h e = let k : plan.step (plan.onward s v) ≡ s.step + 1 = omega (arith, h) in (k, table_stays s v vs)
 
 pub follows : Follows plan table_of
 follows = record {
   long = λ s vs. refl;
   here = fr1_here;
-  moves = λ s v vs h e. let k : plan.step (plan.onward s v) ≡ s.step + 1 = omega (arith, h) in (k, keeps s v vs k);
+  moves = λ s v vs h e. let k : plan.step (plan.onward s v) ≡ s.step + 1 = omega (arith, h) in (k, table_stays s v vs);
   over = λ s. omega arith;
 }
