@@ -1,4 +1,6 @@
 -- A run of the code is a run of the definitions.
+--     by_push          a call of the method `push` is one of these calls: its three clauses are `push_of`
+--     by_finalize      and a call of the method `finalize`: `finalize_of`
 --     calls_run        calls that did what their contracts say end at the record that the steps' run gives
 --     fed              what `profile::feed` gives and leaves, on the serializer that a run reaches
 --     decodes_record   the record decodes into buffers of 32 words or more: the answer is how many writes it has
@@ -13,18 +15,43 @@ use native.Mathlib.Omega.{arith}
 use lib.ListN.{length}
 use lib.Seq.{length-take-le}
 use mathlib.Core.Bool.{Bool, true, false, cond}
-use Rattle.std.specs.Prelude.{Result, Ok, Err}
+use Rattle.std.specs.Prelude.{Result, Ok, Err, OnOk, OnErr, is_ok}
 use Rattle.registers.specs.declared.refusal.Refusal.{Refusal}
 use Rattle.registers.specs.declared.refusal.Refusal.TheVariants.{Mode}
 use Rattle.profile.specs.declared.ProfileSerializer.{ProfileSerializer}
 use Rattle.profile.specs.declared.Stepped.{Stepped}
 use Rattle.stream.specs.Decoder.{writes_of, items_of, count_of}
 use Rattle.stream.proofs.Steps.{items_most, taken_all, counted}
-use Rattle.profile.specs.Serializer.{fresh, new_of, stream_of, feed_judged_of, fed_of, decode_judged_of}
+use Rattle.registers.specs.Refusals.{answer_of}
+use Rattle.rules.specs.declared.Push as given
+use Rattle.rules.specs.Rules.{push_judged, finalize_judged}
+use Rattle.profile.specs.Serializer as serializer
+use Rattle.profile.specs.Serializer.{fresh, new_of, push_of, padded, finalized_of, finalize_of, stream_of, feed_judged_of, fed_of, decode_judged_of}
 use Rattle.script.specs.declared.Step.{Step}
 use Rattle.script.specs.Meaning.{meaning}
 use Rattle.script.specs.Runs.{step_of, run, Calls, none, pushed, finalized}
 use Rattle.script.proofs.Follows.{script, decodes, run_length, run_bytes}
+
+-- what an answer leaves, by its cases
+left : {A : Type 0} (s s' t : ProfileSerializer) (answer : Result A Refusal) → OnOk answer (s' ≡ t) → OnErr answer (s' ≡ s) → s' ≡ cond (is_ok answer) t s
+left s s' t (Ok x) ok err = ok
+left s s' t (Err refusal) ok err = err
+
+answer_ok : {A : Type 0} (judged : Result A Refusal) → is_ok (answer_of judged) ≡ is_ok judged
+answer_ok (Ok x) = refl
+answer_ok (Err refusal) = refl
+
+pub by_push : (s s' : ProfileSerializer) (p : given.Push) (answer : Result (Unit {0}) Refusal) → answer ≡ answer_of (push_judged s.mode s.length p)
+    → OnOk answer (s' ≡ serializer.pushed s p) → OnErr answer (s' ≡ s) → record { answer = answer; serializer = s' } ≡ push_of s p
+unfolding push_of
+by_push s s' p answer a ok err =
+    let judged = push_judged s.mode s.length p in
+    rw (left s s' (serializer.pushed s p) answer ok err ∙ ap (λ (b : Bool). cond b (serializer.pushed s p) s) (ap is_ok a ∙ answer_ok judged), a) refl
+
+pub by_finalize : (s s' : ProfileSerializer) (words : ℕ) (answer : Result ℕ Refusal) → answer ≡ finalize_judged s.mode s.length words
+    → OnOk answer (s' ≡ padded s) → OnErr answer (s' ≡ s) → record { answer = answer; serializer = s' } ≡ finalize_of s words
+unfolding finalized_of
+by_finalize s s' words answer a ok err = rw (left s s' (padded s) answer ok err ∙ ap (λ (b : Bool). cond b (padded s) s) (ap is_ok a), a) refl
 
 pub calls_run : {steps : List Step} {s e : ProfileSerializer} → Calls steps s e → e ≡ run s steps
 unfolding step_of
