@@ -5,7 +5,8 @@ use registers::refusal::{self, Refusal};
 use std::fmt::Write;
 use std::io;
 
-// What was asked, as text. Of a fixed size, longer than any example's: with no heap the program can't run out of memory.
+/// What was asked, as text.
+// Of a fixed size, longer than any example's: with no heap the program can't run out of memory.
 pub type Asked = ArrayString<72>;
 
 // What was asked, in 54 columns, and the answer; a refusal too has a length, the one that stays.
